@@ -1,0 +1,7 @@
+pub mod Lists
+pub mod Values
+pub mod Ops
+pub mod Processes
+pub mod Mailboxes
+pub mod Rows
+pub mod Nodes

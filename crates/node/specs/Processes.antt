@@ -1,0 +1,83 @@
+-- Processes (document 01, "The node" and "Ending"), and what a step makes of one.
+--   unborn             an unborn process
+--   fresh b v          a process that starts behaviour b with v in r0
+--   register p r       the content of register r
+--   withRegister p r v register r becomes v
+--   moved p t          the place becomes t
+--   advanced p         the place rises by 1
+--   trapped p f        the trap flag becomes f
+--   linksTo p j        j is in the link set
+--   linked p j         j joins the link set
+--   unlinked p j       j leaves the link set
+--   ended p v          the process ends with reason v, and is closing; its links are unchanged
+--   gone p             the process is gone
+-- A number that is no register is read as 3, and 0 as process 1; neither occurs in a sound node.
+use mathlib.Core.Bool.{Bool, true, false, cond}
+use mathlib.Core.List.{List}
+use Prim.Native.Nat.{ℕ, _+_, _-_, min}
+use lib.Dec.{eqb}
+use lib.ListN.{getD, set, replicate}
+use Rattle.node.specs.declared.BehaviourNumber.{BehaviourNumber}
+use Rattle.node.specs.declared.Process.{Process}
+use Rattle.node.specs.declared.Stage.{Stage}
+use Rattle.node.specs.declared.Stage.the-variants.{Unborn, Live, Closing, Gone}
+use Rattle.node.specs.declared.Value.{Value}
+use Rattle.node.specs.Values.{intZero}
+
+abbrev pub unborn : Process
+unborn = record { stage = Unborn; behaviour = record { 0 = 0 }; place = 0; r0 = intZero; r1 = intZero; r2 = intZero; r3 = intZero; trap = false; links = replicate 16 false; reason = intZero }
+
+-- "place 0, its r0 the spawner's number, other registers i0, no links, trap 0"
+abbrev pub fresh : BehaviourNumber → Value → Process
+fresh b v = record { stage = Live; behaviour = b; place = 0; r0 = v; r1 = intZero; r2 = intZero; r3 = intZero; trap = false; links = replicate 16 false; reason = intZero }
+
+-- one field anew, the others as they are
+abbrev pub withPlace : Process → ℕ → Process
+withPlace p t = record { stage = p .stage; behaviour = p .behaviour; place = t; r0 = p .r0; r1 = p .r1; r2 = p .r2; r3 = p .r3; trap = p .trap; links = p .links; reason = p .reason }
+
+abbrev pub withRegisters : Process → Value → Value → Value → Value → Process
+withRegisters p a b c d = record { stage = p .stage; behaviour = p .behaviour; place = p .place; r0 = a; r1 = b; r2 = c; r3 = d; trap = p .trap; links = p .links; reason = p .reason }
+
+abbrev pub withTrap : Process → Bool → Process
+withTrap p f = record { stage = p .stage; behaviour = p .behaviour; place = p .place; r0 = p .r0; r1 = p .r1; r2 = p .r2; r3 = p .r3; trap = f; links = p .links; reason = p .reason }
+
+abbrev pub withLinks : Process → List Bool → Process
+withLinks p l = record { stage = p .stage; behaviour = p .behaviour; place = p .place; r0 = p .r0; r1 = p .r1; r2 = p .r2; r3 = p .r3; trap = p .trap; links = l; reason = p .reason }
+
+abbrev pub withStage : Process → Stage → Value → Process
+withStage p s v = record { stage = s; behaviour = p .behaviour; place = p .place; r0 = p .r0; r1 = p .r1; r2 = p .r2; r3 = p .r3; trap = p .trap; links = p .links; reason = v }
+
+unfoldable pub register : Process → ℕ → Value
+register p r = cond (eqb r 0) (p .r0) (cond (eqb r 1) (p .r1) (cond (eqb r 2) (p .r2) (p .r3)))
+
+unfoldable pub withRegister : Process → ℕ → Value → Process
+withRegister p r v =
+    cond (eqb r 0) (withRegisters p v (p .r1) (p .r2) (p .r3))
+    (cond (eqb r 1) (withRegisters p (p .r0) v (p .r2) (p .r3))
+    (cond (eqb r 2) (withRegisters p (p .r0) (p .r1) v (p .r3))
+    (withRegisters p (p .r0) (p .r1) (p .r2) v)))
+
+unfoldable pub moved : Process → ℕ → Process
+moved p t = withPlace p t
+
+-- a place is at most 32 in a sound node; the byte that holds it does not wrap in any
+unfoldable pub advanced : Process → Process
+advanced p = withPlace p (min (p .place + 1) 255)
+
+unfoldable pub trapped : Process → Bool → Process
+trapped p f = withTrap p f
+
+unfoldable pub linksTo : Process → ℕ → Bool
+linksTo p j = getD (p .links) (j - 1) false
+
+unfoldable pub linked : Process → ℕ → Process
+linked p j = withLinks p (set (p .links) (j - 1) true)
+
+unfoldable pub unlinked : Process → ℕ → Process
+unlinked p j = withLinks p (set (p .links) (j - 1) false)
+
+unfoldable pub ended : Process → Value → Process
+ended p v = withStage p Closing v
+
+unfoldable pub gone : Process → Process
+gone p = withStage p Gone (p .reason)

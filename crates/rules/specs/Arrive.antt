@@ -1,0 +1,59 @@
+-- Arriving (document 01, "Arrive").
+--   joins st x          message x joins the mailbox
+--   exits i j st v b    what live process i does on exit(v, b) from j: the first line that applies
+--   takes i j st x      what live process i does with signal x from j
+--   arrives i j st x    what process i does with signal x from j
+use mathlib.Core.Bool.{Bool, true, false, cond, not, _&&_}
+use mathlib.Core.Option.{none}
+use Prim.Native.Nat.{ℕ}
+use lib.Dec.{ltb, eqb}
+use Rattle.node.specs.declared.Message.{Message}
+use Rattle.node.specs.declared.Message.the-variants.{Plain, Note}
+use Rattle.node.specs.declared.Process.{Process}
+use Rattle.node.specs.declared.Signal.{Signal}
+use Rattle.node.specs.declared.Signal.the-variants.{Msg, Exit, Link, Unlink}
+use Rattle.node.specs.declared.Stage.{Stage}
+use Rattle.node.specs.declared.Stage.the-variants.{Unborn, Live, Closing, Gone}
+use Rattle.node.specs.declared.Value.{Value}
+use Rattle.node.specs.Mailboxes.{joined}
+use Rattle.node.specs.Processes.{linksTo, linked, unlinked}
+use Rattle.node.specs.Values.{normal, kill, killed}
+use Rattle.rules.specs.Answers.{Answer, refused, done, need, ownerUnborn, mailboxFull}
+use Rattle.rules.specs.Effects.{State, Effect, becomes, ends}
+use Rattle.rules.specs.Values.{sameValue}
+
+-- process p, and message x behind the others
+abbrev pub joinsWith : State → Process → Message → Answer Effect
+joinsWith st p x = need (ltb (st .mail .count) 16) mailboxFull (done (record { process = p; mail = joined (st .mail) x; sent = none; born = none }))
+
+abbrev pub joins : State → Message → Answer Effect
+joins st x = joinsWith st (st .process) x
+
+-- "note (j,v) joins the mailbox; if b=1, j leaves the links"
+abbrev pub notes : ℕ → State → Value → Bool → Answer Effect
+notes j st v b = joinsWith st (cond b (unlinked (st .process) j) (st .process)) (Note (record { 0 = j }) v)
+
+unfoldable pub exits : ℕ → ℕ → State → Value → Bool → Answer Effect
+exits i j st v b =
+    let p = st .process in
+    cond (b && not (linksTo p j)) (becomes st p)  -- 1  linked, and j is no link: dropped
+    (cond (not b && sameValue v kill) (ends st killed)  -- 2  kill: ends with killed, trap or no trap
+    (cond (p .trap) (notes j st v b)  -- 3  trapped: a note joins the mailbox
+    (cond (sameValue v normal && not (eqb j i)) (becomes st p)  -- 4  normal from another: dropped
+    (ends st v))))  -- 5
+
+abbrev pub takes : ℕ → ℕ → State → Signal → Answer Effect
+takes i j st (Msg v) = joins st (Plain v)
+takes i j st (Exit v b) = exits i j st v b
+takes i j st Link = becomes st (linked (st .process) j)
+takes i j st Unlink = becomes st (unlinked (st .process) j)
+
+-- "Closing or gone i: the signal is dropped"
+abbrev pub arrivesIn : Stage → ℕ → ℕ → State → Signal → Answer Effect
+arrivesIn Unborn i j st x = refused ownerUnborn
+arrivesIn Live i j st x = takes i j st x
+arrivesIn Closing i j st x = becomes st (st .process)
+arrivesIn Gone i j st x = becomes st (st .process)
+
+unfoldable pub arrives : ℕ → ℕ → State → Signal → Answer Effect
+arrives i j st x = arrivesIn (st .process .stage) i j st x

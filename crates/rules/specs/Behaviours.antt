@@ -1,0 +1,115 @@
+-- Behaviours and the plan's rules on them (document 01, "The node", "Run, live", and the plan writer's numbers 12 and 14).
+--   Instruction         an op as document 01 writes it: its number and the operands that it has
+--   instruction o       the instruction that an op record holds; fields that are no operands of the op do not count
+--   inRange c n x       12: each operand of x is in range, where the plan has c behaviours and the code n ops
+--   wellPlaced code t x 14: x, at place t of the code, is a recv with its clauses, a clause of a recv, or neither; its target is on no clause
+--   codeSound c code    a behaviour of a plan with c behaviours passes the plan's rules
+use mathlib.Core.Bool.{Bool, true, false, _&&_, _||_, not, cond}
+use mathlib.Core.List.{List, [], _∷_, map}
+use Prim.Native.Nat.{ℕ, _+_, _-_}
+use lib.Dec.{leb, ltb, eqb}
+use lib.ListN.{length, getD, take, drop}
+use Rattle.node.specs.declared.Op.{Op}
+use Rattle.node.specs.declared.Value.{Value}
+use Rattle.node.specs.Lists.{allFrom, allOf, allTwo}
+use Rattle.node.specs.Ops.{kindsOf}
+use Rattle.node.specs.Values.{intZero}
+use Rattle.rules.specs.Values.{isNumber, valueSound}
+
+-- an operand: a number or a value; a clause kind is 0 any, 1 int, 2 atom, 3 pid, 4 note, or 5 with one exact value
+pub record Operand : Type 0 where
+  pub number : ℕ
+  pub value : Value
+
+pub record Instruction : Type 0 where
+  pub number : ℕ
+  pub operands : List Operand
+
+abbrev pub numeric : ℕ → Operand
+numeric k = record { number = k; value = intZero }
+
+-- the operand of each kind (node's `operandKinds`)
+unfoldable pub operand : Op → ℕ → Operand
+operand o kind =
+    getD
+    (numeric 0  -- none
+    ∷ numeric (o .r)  -- register r
+    ∷ numeric (o .s)  -- register s
+    ∷ record { number = 0; value = o .value }  -- value V
+    ∷ numeric (o .target)  -- place t
+    ∷ numeric (o .behaviour .0)  -- behaviour number b
+    ∷ numeric (o .process .0)  -- process number q
+    ∷ numeric (o .small)  -- flag f
+    ∷ numeric (o .small)  -- count n of clauses
+    ∷ record { number = o .small; value = cond (eqb (o .small) 5) (o .value) intZero }  -- clause kind k
+    ∷ [])
+    kind (numeric 0)
+
+unfoldable pub instruction : Op → Instruction
+instruction o = record { number = o .number; operands = map (operand o) (kindsOf (o .number)) }
+
+-- "r, s are registers 0 to 3, V a value, t a place 0 to N, b a behaviour number up to the plan's count, q a process number",
+-- f 0 or 1, n 1 to 8
+unfoldable pub operandInRange : ℕ → ℕ → ℕ → Operand → Bool
+operandInRange c n kind x =
+    getD
+    (true  -- none
+    ∷ leb (x .number) 3  -- register r
+    ∷ leb (x .number) 3  -- register s
+    ∷ valueSound (x .value)  -- value V
+    ∷ leb (x .number) n  -- place t
+    ∷ (leb 1 (x .number) && leb (x .number) c)  -- behaviour number b
+    ∷ isNumber (x .number)  -- process number q
+    ∷ leb (x .number) 1  -- flag f
+    ∷ (leb 1 (x .number) && leb (x .number) 8)  -- count n of clauses
+    ∷ (leb (x .number) 5 && valueSound (x .value))  -- clause kind k
+    ∷ [])
+    kind true
+
+unfoldable pub inRange : ℕ → ℕ → Instruction → Bool
+inRange c n x = ltb (x .number) 16 && allTwo (operandInRange c n) (kindsOf (x .number)) (x .operands)
+
+abbrev pub isRecv : Instruction → Bool
+isRecv x = eqb (x .number) 10
+
+abbrev pub isClause : Instruction → Bool
+isClause x = eqb (x .number) 11
+
+-- recv's n
+abbrev pub clauseCount : Instruction → ℕ
+clauseCount x = getD (x .operands) 0 (numeric 0) .number
+
+abbrev pub noInstruction : Instruction
+noInstruction = record { number = 0; operands = [] }
+
+abbrev pub onClause : List Instruction → ℕ → Bool
+onClause code t = isClause (getD code t noInstruction)
+
+-- "The next n ops are its clauses"
+unfoldable pub hasClauses : ℕ → List Instruction → Bool
+hasClauses n rest = leb n (length rest) && allOf isClause (take n rest)
+
+-- of the clauses of the last recv, how many are still due behind the given ops, where k were due before them
+abbrev pub dueNext : ℕ → Instruction → ℕ
+dueNext k x = cond (isRecv x) (clauseCount x) (cond (isClause x) (k - 1) 0)
+
+abbrev pub due : ℕ → List Instruction → ℕ
+due k [] = k
+due k (x ∷ xs) = due (dueNext k x) xs
+
+-- "target place on a clause"; 4 is the operand kind of a place
+unfoldable pub targetsFree : List Instruction → Instruction → Bool
+targetsFree code x = allTwo (λ kind o. not (eqb kind 4) || not (onClause code (o .number))) (kindsOf (x .number)) (x .operands)
+
+-- "recv without its clauses, stray clause, target place on a clause"
+unfoldable pub wellPlaced : List Instruction → ℕ → Instruction → Bool
+wellPlaced code t x =
+    (not (isRecv x) || hasClauses (clauseCount x) (drop (t + 1) code))
+    && (not (isClause x) || ltb 0 (due 0 (take t code)))
+    && targetsFree code x
+
+-- "A behaviour is a row of N ops"; N is 1 to 32
+unfoldable pub codeSound : ℕ → List Instruction → Bool
+codeSound c code =
+    leb 1 (length code) && leb (length code) 32
+    && allFrom (λ t x. inRange c (length code) x && wellPlaced code t x) 0 code

@@ -1,0 +1,11 @@
+pub mod Answers
+pub mod Values
+pub mod Behaviours
+pub mod Nodes
+pub mod Effects
+pub mod Receive
+pub mod Run
+pub mod Arrive
+pub mod Steps
+pub mod Suggest
+pub mod Calls

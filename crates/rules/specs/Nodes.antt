@@ -1,0 +1,142 @@
+-- The node: processes in their stages, signals in flight, soundness and equality (document 01, "The node").
+--   code n b       the ops of behaviour b
+--   process n i    process i;  mailbox n i  its mailbox;  row n j i  the row in flight from j to i
+--   Standing       a process in one of the four stages, with what that stage holds
+--   View           document 01's node: behaviours, processes and rows in flight, with nothing that a record only keeps room for
+--   view n         what the record n holds
+--   Equal n m      equal nodes
+--   sound n        "A node is sound when"; Sound n is its proposition
+use mathlib.Core.Bool.{Bool, true, _&&_, not, So}
+use mathlib.Core.List.{List, [], _∷_, map}
+use mathlib.Core.Path.{_≡_}
+use Prim.Native.Nat.{ℕ, _-_, _*_}
+use lib.Dec.{leb, eqb}
+use lib.ListN.{length, getD, drop}
+use Rattle.node.specs.declared.Mailbox.{Mailbox}
+use Rattle.node.specs.declared.Message.{Message}
+use Rattle.node.specs.declared.Node.{Node}
+use Rattle.node.specs.declared.Op.{Op}
+use Rattle.node.specs.declared.Process.{Process}
+use Rattle.node.specs.declared.Row.{Row}
+use Rattle.node.specs.declared.Signal.{Signal}
+use Rattle.node.specs.declared.Signal.the-variants.{Msg, Exit, Link, Unlink}
+use Rattle.node.specs.declared.Stage.{Stage}
+use Rattle.node.specs.declared.Stage.the-variants.{Unborn, Live, Closing, Gone}
+use Rattle.node.specs.declared.Value.{Value}
+use Rattle.node.specs.Lists.{firsts, rising, allFrom, allOf}
+use Rattle.node.specs.Mailboxes.{messages}
+use Rattle.node.specs.Nodes.{noOp, noProcess, noMailbox, noRow, pair}
+use Rattle.node.specs.Processes.{linksTo}
+use Rattle.node.specs.Rows.{signals}
+use Rattle.rules.specs.Behaviours.{Instruction, instruction, onClause, codeSound}
+use Rattle.rules.specs.Values.{numbers, isNumber, valueSound, messageSound}
+
+-- ---- where the parts of a node stand
+
+unfoldable pub code : Node → ℕ → List Op
+code n b = firsts noOp (getD (n .lens) (b - 1) 0) (drop (32 * (b - 1)) (n .ops))
+
+abbrev pub process : Node → ℕ → Process
+process n i = getD (n .processes) (i - 1) noProcess
+
+abbrev pub mailbox : Node → ℕ → Mailbox
+mailbox n i = getD (n .mail) (i - 1) noMailbox
+
+abbrev pub row : Node → ℕ → ℕ → Row
+row n j i = getD (n .flight) (pair j i) noRow
+
+-- ---- the node that a record holds
+
+-- a link set, as the test of its members
+unfoldable pub linkSet : Process → ℕ → Bool
+linkSet p j = isNumber j && linksTo p j
+
+-- "live: behaviour number, place (program counter), registers r0 to r3, trap flag, link set, mailbox"
+pub record Running : Type 0 where
+  pub behaviour : ℕ
+  pub place : ℕ
+  pub registers : List Value
+  pub trap : Bool
+  pub links : ℕ → Bool
+  pub mail : List Message
+
+-- closing (an exiting process): "reason and link set"; unborn and gone hold nothing
+pub data Standing : Type 0 where
+  unborn : Standing
+  live : Running → Standing
+  closing : Value → (ℕ → Bool) → Standing
+  gone : Standing
+
+abbrev pub running : Process → Mailbox → Running
+running p m = record { behaviour = p .behaviour .0; place = p .place; registers = p .r0 ∷ p .r1 ∷ p .r2 ∷ p .r3 ∷ []; trap = p .trap; links = linkSet p; mail = messages m }
+
+abbrev pub standingIn : Stage → Process → Mailbox → Standing
+standingIn Unborn p m = unborn
+standingIn Live p m = live (running p m)
+standingIn Closing p m = closing (p .reason) (linkSet p)
+standingIn Gone p m = gone
+
+unfoldable pub standing : Process → Mailbox → Standing
+standing p m = standingIn (p .stage) p m
+
+pub record View : Type 0 where
+  pub behaviours : List (List Instruction)
+  pub processes : List Standing
+  -- of each process, the signals that it has in flight to each process
+  pub flight : List (List (List Signal))
+
+unfoldable pub behavioursOf : Node → List (List Instruction)
+behavioursOf n = map (λ b. map instruction (code n b)) (rising 1 (n .count))
+
+unfoldable pub view : Node → View
+view n = record {
+  behaviours = behavioursOf n;
+  processes = map (λ i. standing (process n i) (mailbox n i)) numbers;
+  flight = map (λ j. map (λ i. signals (row n j i)) numbers) numbers;
+}
+
+-- "Equal nodes have equal behaviours, stages, contents of each stage (link sets as sets) and in-flight rows"
+abbrev pub Equal : Node → Node → Type 0
+Equal n m = view n ≡ view m
+
+-- ---- soundness (well-formedness)
+
+-- "every behaviour number is one that the node has, no place is on a clause"; the mailbox has at most 16 messages
+unfoldable pub runningSound : List (List Instruction) → Running → Bool
+runningSound codes r =
+    leb 1 (r .behaviour) && leb (r .behaviour) (length codes)
+    && leb (r .place) (length (getD codes (r .behaviour - 1) []))
+    && not (onClause (getD codes (r .behaviour - 1) []) (r .place))
+    && allOf valueSound (r .registers)
+    && leb (length (r .mail)) 16 && allOf messageSound (r .mail)
+
+-- "no process links itself"
+abbrev pub standingSound : List (List Instruction) → ℕ → Standing → Bool
+standingSound codes i unborn = true
+standingSound codes i (live r) = runningSound codes r && not (r .links i)
+standingSound codes i (closing v links) = valueSound v && not (links i)
+standingSound codes i gone = true
+
+-- "no process .. has a link or unlink in flight to itself"
+abbrev pub signalSound : ℕ → ℕ → Signal → Bool
+signalSound j i (Msg v) = valueSound v
+signalSound j i (Exit v b) = valueSound v
+signalSound j i Link = not (eqb j i)
+signalSound j i Unlink = not (eqb j i)
+
+-- "For each ordered pair (from, to), itself included, at most 4 signals are in flight"
+unfoldable pub rowSound : ℕ → ℕ → List Signal → Bool
+rowSound j i r = leb (length r) 4 && allOf (signalSound j i) r
+
+unfoldable pub viewSound : View → Bool
+viewSound v =
+    leb 1 (length (v .behaviours)) && leb (length (v .behaviours)) 8
+    && allOf (codeSound (length (v .behaviours))) (v .behaviours)
+    && allFrom (standingSound (v .behaviours)) 1 (v .processes)
+    && allFrom (λ j rows. allFrom (rowSound j) 1 rows) 1 (v .flight)
+
+unfoldable pub sound : Node → Bool
+sound n = viewSound (view n)
+
+abbrev pub Sound : Node → Type 0
+Sound n = So (sound n)

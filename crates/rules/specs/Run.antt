@@ -1,0 +1,119 @@
+-- Running (document 01, "Run, live", "Ending" and "Run, closing").
+--   runsOp code i st o   what process i does at op o of its code
+--   closes st            what a closing process does
+--   runs code i st       what a run of process i does; code is that of its behaviour
+use mathlib.Core.Bool.{Bool, true, false, cond}
+use mathlib.Core.List.{List, [], _∷_}
+use mathlib.Core.Option.{Option, none, some}
+use Prim.Native.Nat.{ℕ, _+_}
+use lib.Dec.{leb, eqb}
+use lib.IntN.{ℤ, _+ℤ_}
+use lib.ListN.{length, getD}
+use lib.Signed.{ltZ}
+use Rattle.node.specs.declared.Op.{Op}
+use Rattle.node.specs.declared.Signal.the-variants.{Msg, Exit, Link, Unlink}
+use Rattle.node.specs.declared.Stage.{Stage}
+use Rattle.node.specs.declared.Stage.the-variants.{Unborn, Live, Closing, Gone}
+use Rattle.node.specs.declared.Value.{Value}
+use Rattle.node.specs.declared.Value.the-variants.{Int, Atom, Pid}
+use Rattle.node.specs.Nodes.{noOp}
+use Rattle.node.specs.Processes.{fresh, register, withRegister, moved, advanced, trapped, linked, unlinked, gone}
+use Rattle.node.specs.Values.{normal, badarg, badarith, pid}
+use Rattle.rules.specs.Answers.{Answer, refused, done, ownerUnborn, ownerGone}
+use Rattle.rules.specs.Effects.{State, Effect, becomes, ends, sends}
+use Rattle.rules.specs.Receive.{receives}
+use Rattle.rules.specs.Values.{fitsInt, sameValue}
+
+-- "unless said, the place rises by 1"
+abbrev pub setsRegister : State → ℕ → Value → Answer Effect
+setsRegister st r v = becomes st (advanced (withRegister (st .process) r v))
+
+abbrev pub jumpsIf : State → Bool → ℕ → Answer Effect
+jumpsIf st b t = becomes st (cond b (moved (st .process) t) (advanced (st .process)))
+
+-- "not both integers, or sum outside i: ends with a4"
+abbrev pub adds : State → ℕ → Value → Value → Answer Effect
+adds st r (Int x) (Int y) = cond (fitsInt (x +ℤ y)) (setsRegister st r (Int (x +ℤ y))) (ends st badarith)
+adds st r (Int x) (Atom b) = ends st badarith
+adds st r (Int x) (Pid b) = ends st badarith
+adds st r (Atom a) w = ends st badarith
+adds st r (Pid a) w = ends st badarith
+
+-- "not both integers: ends with a3"
+abbrev pub compares : State → ℕ → Value → Value → Answer Effect
+compares st t (Int x) (Int y) = jumpsIf st (ltZ x y) t
+compares st t (Int x) (Atom b) = ends st badarg
+compares st t (Int x) (Pid b) = ends st badarg
+compares st t (Atom a) w = ends st badarg
+compares st t (Pid a) w = ends st badarg
+
+-- "If r of send, exit, link or unlink holds no p, the process ends with a3, before 26 is looked at"
+abbrev pub toProcess : State → Value → (ℕ → Answer Effect) → Answer Effect
+toProcess st (Int z) f = ends st badarg
+toProcess st (Atom a) f = ends st badarg
+toProcess st (Pid j) f = f (j .0)
+
+-- link and unlink "to itself: nothing"
+abbrev pub toOther : ℕ → State → ℕ → Answer Effect → Answer Effect
+toOther i st j a = cond (eqb j i) (becomes st (advanced (st .process))) a
+
+abbrev pub spawns : ℕ → State → Op → Answer Effect
+spawns i st o = done (record {
+  process = advanced (withRegister (st .process) (o .r) (Pid (o .process)));
+  mail = st .mail;
+  sent = none;
+  born = some (record { number = o .process .0; process = fresh (o .behaviour) (pid i) });
+})
+
+-- the table of ops, by number
+unfoldable pub runsOp : List Op → ℕ → State → Op → Answer Effect
+runsOp code i st o =
+    let p = st .process in
+    let r = register p (o .r) in
+    let s = register p (o .s) in
+    getD
+    (setsRegister st (o .r) (o .value)  -- set,r,V
+    ∷ setsRegister st (o .r) s  -- copy,r,s
+    ∷ setsRegister st (o .r) (pid i)  -- self,r
+    ∷ adds st (o .r) r s  -- add,r,s
+    ∷ toProcess st r (λ j. sends st (advanced p) j (Msg s))  -- send,r,s
+    ∷ toProcess st r (λ j. sends st (advanced p) j (Exit s false))  -- exit,r,s
+    ∷ toProcess st r (λ j. toOther i st j (sends st (advanced (linked p j)) j Link))  -- link,r
+    ∷ toProcess st r (λ j. toOther i st j (sends st (advanced (unlinked p j)) j Unlink))  -- unlink,r
+    ∷ becomes st (advanced (trapped p (eqb (o .small) 1)))  -- trap,f
+    ∷ spawns i st o  -- spawn,r,b,q
+    ∷ receives code st o  -- recv,n
+    ∷ becomes st (advanced p)  -- clause, which no place of a sound node is on
+    ∷ becomes st (moved p (o .target))  -- jump,t
+    ∷ jumpsIf st (sameValue r (o .value)) (o .target)  -- same,r,V,t
+    ∷ compares st (o .target) r s  -- less,r,s,t
+    ∷ [])
+    (o .number)
+    (ends st r)  -- stop,r
+
+-- the lowest-numbered link, where k is the number of the first
+abbrev pub lowestLink : ℕ → List Bool → Option ℕ
+lowestLink k [] = none
+lowestLink k (true ∷ l) = some k
+lowestLink k (false ∷ l) = lowestLink (k + 1) l
+
+-- "sends exit(v,1) to its lowest-numbered link and drops it from the set; with no links it goes gone"
+abbrev pub closesTo : State → Option ℕ → Answer Effect
+closesTo st none = becomes st (gone (st .process))
+closesTo st (some j) = sends st (unlinked (st .process) j) j (Exit (st .process .reason) true)
+
+unfoldable pub closes : State → Answer Effect
+closes st = closesTo st (lowestLink 1 (st .process .links))
+
+-- "At place N the process ends with a0. Otherwise the op decides"
+unfoldable pub runsLive : List Op → ℕ → State → Answer Effect
+runsLive code i st = cond (leb (length code) (st .process .place)) (ends st normal) (runsOp code i st (getD code (st .process .place) noOp))
+
+abbrev pub runsIn : Stage → List Op → ℕ → State → Answer Effect
+runsIn Unborn code i st = refused ownerUnborn
+runsIn Live code i st = runsLive code i st
+runsIn Closing code i st = closes st
+runsIn Gone code i st = refused ownerGone
+
+unfoldable pub runs : List Op → ℕ → State → Answer Effect
+runs code i st = runsIn (st .process .stage) code i st

@@ -1,0 +1,156 @@
+-- Steps and schedules (document 01, "Steps" and "The three hands").
+--   Action         a step: `run i` or `arrive i from j`
+--   owner a        its owner
+--   meaning s      the action that a step record stands for
+--   decide n a     the local decision: what the owner does, from its own state, its code and the oldest signal of one row
+--   commit n a e   the node after effect e of action a
+--   rule n a       the checks 20 to 27 in their order, then the commit
+--   step n a       a step: 31, then the rule
+--   played n l     steps played until one is refused
+--   play n l       a schedule (action trace): 31, 32, then played
+use mathlib.Core.Bool.{Bool, true, false, cond, not, _&&_}
+use mathlib.Core.List.{List, [], _∷_}
+use mathlib.Core.Option.{Option, none, some}
+use Prim.Native.Nat.{ℕ, zero, suc, _+_, _-_}
+use lib.Dec.{leb, ltb, eqb}
+use lib.ListN.{length, getD, set}
+use Rattle.node.specs.declared.Mailbox.{Mailbox}
+use Rattle.node.specs.declared.Node.{Node}
+use Rattle.node.specs.declared.Process.{Process}
+use Rattle.node.specs.declared.Row.{Row}
+use Rattle.node.specs.declared.Stage.{Stage}
+use Rattle.node.specs.declared.Stage.the-variants.{Unborn, Live, Closing, Gone}
+use Rattle.node.specs.declared.Step.{Step}
+use Rattle.node.specs.Mailboxes.{emptied}
+use Rattle.node.specs.Nodes.{noMailbox, noRow, pair}
+use Rattle.node.specs.Rows.{oldest, pushed, popped}
+use Rattle.rules.specs.Answers.{Answer, refused, done, need, goOn, badNumber, ownerUnborn, noneInFlight, pairFull, notUnborn, notSound, tooLong}
+use Rattle.rules.specs.Arrive.{arrives}
+use Rattle.rules.specs.Effects.{State, Effect, Sending, Birth}
+use Rattle.rules.specs.Nodes.{code, process, mailbox, row, sound}
+use Rattle.rules.specs.Run.{runs}
+use Rattle.rules.specs.Values.{isNumber}
+
+pub data Action : Type 0 where
+  run : ℕ → Action
+  arrive : ℕ → ℕ → Action
+
+abbrev pub owner : Action → ℕ
+owner (run i) = i
+owner (arrive i j) = i
+
+-- a step record by its kind: 0 run, 1 arrive; any other kind stands for `run 0`, which is refused with 20
+unfoldable pub meaning : Step → Action
+meaning s = getD (run (s .owner .0) ∷ arrive (s .owner .0) (s .from .0) ∷ []) (s .kind) (run 0)
+
+-- ---- the checks
+
+abbrev pub isUnborn : Stage → Bool
+isUnborn Unborn = true
+isUnborn Live = false
+isUnborn Closing = false
+isUnborn Gone = false
+
+-- 20: each number is 1 to 16
+unfoldable pub numbered : Action → Bool
+numbered (run i) = isNumber i
+numbered (arrive i j) = isNumber i && isNumber j
+
+-- 21: the owner is born
+unfoldable pub ownerBorn : Node → Action → Bool
+ownerBorn n a = not (isUnborn (process n (owner a) .stage))
+
+-- 23: a signal is in flight from j to i
+unfoldable pub signalWaits : Node → Action → Bool
+signalWaits n (run i) = true
+signalWaits n (arrive i j) = ltb 0 (row n j i .count)
+
+-- 26: the pair has room for what i sends
+unfoldable pub pairHasRoom : Node → ℕ → Option Sending → Bool
+pairHasRoom n i none = true
+pairHasRoom n i (some x) = ltb (row n i (x .to) .count) 4
+
+-- 27: the spawned number is unborn
+unfoldable pub numberFree : Node → Option Birth → Bool
+numberFree n none = true
+numberFree n (some b) = isUnborn (process n (b .number) .stage)
+
+-- ---- the decision and the commit
+
+abbrev pub state : Node → ℕ → State
+state n i = record { process = process n i; mail = mailbox n i }
+
+unfoldable pub decide : Node → Action → Answer Effect
+decide n (run i) = runs (code n (process n i .behaviour .0)) i (state n i)
+decide n (arrive i j) = arrives i j (state n i) (oldest (row n j i))
+
+-- element k of a list, changed where it stands; d stands for what is past the end
+unfoldable pub at : {A : Type 0} → A → (A → A) → ℕ → List A → List A
+at d f k l = set l k (f (getD l k d))
+
+-- "Arrive takes the oldest signal from j to i"
+abbrev pub withArrival : List Row → Action → List Row
+withArrival rows (run i) = rows
+withArrival rows (arrive i j) = at noRow popped (pair j i) rows
+
+abbrev pub withSending : List Row → ℕ → Option Sending → List Row
+withSending rows i none = rows
+withSending rows i (some x) = at noRow (λ r. pushed r (x .signal)) (pair i (x .to)) rows
+
+abbrev pub withBirth : List Process → Option Birth → List Process
+withBirth ps none = ps
+withBirth ps (some b) = set ps (b .number - 1) (b .process)
+
+abbrev pub withNoMail : List Mailbox → Option Birth → List Mailbox
+withNoMail ms none = ms
+withNoMail ms (some b) = at noMailbox emptied (b .number - 1) ms
+
+unfoldable pub commit : Node → Action → Effect → Node
+commit n a e = record {
+  count = n .count;
+  lens = n .lens;
+  ops = n .ops;
+  processes = withBirth (set (n .processes) (owner a - 1) (e .process)) (e .born);
+  mail = withNoMail (set (n .mail) (owner a - 1) (e .mail)) (e .born);
+  flight = withSending (withArrival (n .flight) a) (owner a) (e .sent);
+}
+
+-- ---- a step
+
+-- all that is looked at before 27: "20, 21, 22 or 23, then the rest, of which no two can meet"; 22, 24 and 25 are the decision's
+unfoldable pub ready : Node → Action → Answer Effect
+ready n a =
+    need (numbered a) badNumber
+    (need (ownerBorn n a) ownerUnborn
+    (need (signalWaits n a) noneInFlight
+    (goOn (decide n a) (λ e. need (pairHasRoom n (owner a) (e .sent)) pairFull (done e)))))
+
+unfoldable pub rule : Node → Action → Answer Node
+rule n a = goOn (ready n a) (λ e. need (numberFree n (e .born)) notUnborn (done (commit n a e)))
+
+unfoldable pub step : Node → Action → Answer Node
+step n a = need (sound n) notSound (rule n a)
+
+-- ---- a schedule
+
+-- "the answer is the count accepted, the refusal (0 if none) and the node then"
+pub record Played : Type 0 where
+  pub accepted : ℕ
+  pub refusal : ℕ
+  pub node : Node
+
+-- an answer, and what is played from the node behind it
+abbrev pub playsOn : Node → Answer Node → (Node → Played) → Played
+playsOn n (refused k) f = record { accepted = 0; refusal = k; node = n }
+playsOn n (done m) f = let r = f m in record { accepted = r .accepted + 1; refusal = r .refusal; node = r .node }
+
+unfoldable pub played : Node → List Action → Played
+played n [] = record { accepted = 0; refusal = 0; node = n }
+played n (a ∷ l) = playsOn n (step n a) (λ m. played m l)
+
+-- "A play refused by 31 or 32 has count 0"
+unfoldable pub play : Node → List Action → Played
+play n l =
+    cond (not (sound n)) (record { accepted = 0; refusal = notSound; node = n })
+    (cond (ltb 4096 (length l)) (record { accepted = 0; refusal = tooLong; node = n })
+    (played n l))
