@@ -1,2 +1,5 @@
+pub mod All
 pub mod Records
+pub mod Suggest
 pub mod Ramp
+pub mod Firsts

@@ -5,7 +5,7 @@
 use mathlib.Core.Bool.{Bool, true, false, cond}
 use mathlib.Core.List.{List, [], _∷_}
 use mathlib.Core.Option.{Option, none, some}
-use Prim.Native.Nat.{ℕ, _+_}
+use Prim.Native.Nat.{ℕ}
 use lib.Dec.{leb, eqb}
 use lib.IntN.{ℤ, _+ℤ_}
 use lib.ListN.{length, getD}
@@ -17,12 +17,12 @@ use Rattle.node.specs.declared.Stage.the-variants.{Unborn, Live, Closing, Gone}
 use Rattle.node.specs.declared.Value.{Value}
 use Rattle.node.specs.declared.Value.the-variants.{Int, Atom, Pid}
 use Rattle.node.specs.Nodes.{noOp}
-use Rattle.node.specs.Processes.{fresh, register, withRegister, moved, advanced, trapped, linked, unlinked, gone}
+use Rattle.node.specs.Processes.{fresh, register, withRegister, moved, advanced, trapped, linksTo, linked, unlinked, gone}
 use Rattle.node.specs.Values.{normal, badarg, badarith, pid}
 use Rattle.rules.specs.Answers.{Answer, refused, done, ownerUnborn, ownerGone}
 use Rattle.rules.specs.Effects.{State, Effect, becomes, ends, sends}
 use Rattle.rules.specs.Receive.{receives}
-use Rattle.rules.specs.Values.{fitsInt, sameValue}
+use Rattle.rules.specs.Values.{numbers, fitsInt, sameValue}
 
 -- "unless said, the place rises by 1"
 abbrev pub setsRegister : State → ℕ → Value → Answer Effect
@@ -91,11 +91,10 @@ runsOp code i st o =
     (o .number)
     (ends st r)  -- stop,r
 
--- the lowest-numbered link, where k is the number of the first
-abbrev pub lowestLink : ℕ → List Bool → Option ℕ
-lowestLink k [] = none
-lowestLink k (true ∷ l) = some k
-lowestLink k (false ∷ l) = lowestLink (k + 1) l
+-- the first of the given numbers that passes a test
+abbrev pub lowest : (ℕ → Bool) → List ℕ → Option ℕ
+lowest f [] = none
+lowest f (k ∷ l) = cond (f k) (some k) (lowest f l)
 
 -- "sends exit(v,1) to its lowest-numbered link and drops it from the set; with no links it goes gone"
 abbrev pub closesTo : State → Option ℕ → Answer Effect
@@ -103,7 +102,7 @@ closesTo st none = becomes st (gone (st .process))
 closesTo st (some j) = sends st (unlinked (st .process) j) j (Exit (st .process .reason) true)
 
 unfoldable pub closes : State → Answer Effect
-closes st = closesTo st (lowestLink 1 (st .process .links))
+closes st = closesTo st (lowest (linksTo (st .process)) numbers)
 
 -- "At place N the process ends with a0. Otherwise the op decides"
 unfoldable pub runsLive : List Op → ℕ → State → Answer Effect
