@@ -6,7 +6,7 @@ use Prim.Native.Nat.{ℕ, zero, suc, _+_, _-_, _≤_, _<_}
 use native.Mathlib.Nat.{not-suc-le-zero, le-of-suc-le-suc}
 use native.Mathlib.Omega.{arith}
 use lib.ListN.{length, getD, set, length-map, List·getD-map}
-use Rattle.node.specs.Lists.{firsts, leave, rising, allFrom, allOf}
+use Rattle.node.specs.Lists.{rising, allFrom, allOf, allTwo}
 
 pub both : {a b : Bool} → So a → So b → So (a && b)
 both {a} {b} h k = and-eq-true-iff a b .1 (h, k)
@@ -90,3 +90,16 @@ module _ {A : Type 0} (g : ℕ → A) where
       allFrom-of f (g i) i (map g (rising i n)) (λ k b.
       let c : k < n = rw made-length at b in
       rw (made-at i n k (g i) c) (h (i + k) (omega arith) (omega arith)))
+
+-- ---- two lists
+
+-- of a list made from another, the element at a place within it
+pub map-at : {A B : Type 0} (f : A → B) (l : List A) (k : ℕ) (d : A) (e : B) → k < length l → getD (map f l) k e ≡ f (getD l k d)
+map-at f [] k d e h = absurd (not-suc-le-zero h)
+map-at f (x ∷ l) zero d e h = refl
+map-at f (x ∷ l) (suc k) d e h = map-at f l k d e (le-of-suc-le-suc h)
+
+pub allTwo-at : {A B : Type 0} (f : A → B → Bool) (g : A → B) (d : A) (l : List A) → So (allTwo f l (map g l)) → (k : ℕ) → k < length l → So (f (getD l k d) (g (getD l k d)))
+allTwo-at f g d [] h k b = absurd (not-suc-le-zero b)
+allTwo-at f g d (x ∷ l) h zero b = parts (f x (g x)) (allTwo f l (map g l)) h .0
+allTwo-at f g d (x ∷ l) h (suc k) b = allTwo-at f g d l (parts (f x (g x)) (allTwo f l (map g l)) h .1) k (le-of-suc-le-suc b)

@@ -3,3 +3,4 @@ pub mod Records
 pub mod Suggest
 pub mod Ramp
 pub mod Firsts
+pub mod Keep

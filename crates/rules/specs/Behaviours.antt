@@ -98,8 +98,11 @@ due k [] = k
 due k (x ∷ xs) = due (dueNext k x) xs
 
 -- "target place on a clause"; 4 is the operand kind of a place
+abbrev pub targetFree : List Instruction → ℕ → Operand → Bool
+targetFree code kind x = not (eqb kind 4) || not (onClause code (x .number))
+
 unfoldable pub targetsFree : List Instruction → Instruction → Bool
-targetsFree code x = allTwo (λ kind o. not (eqb kind 4) || not (onClause code (o .number))) (kindsOf (x .number)) (x .operands)
+targetsFree code x = allTwo (targetFree code) (kindsOf (x .number)) (x .operands)
 
 -- "recv without its clauses, stray clause, target place on a clause"
 unfoldable pub wellPlaced : List Instruction → ℕ → Instruction → Bool

@@ -1,5 +1,5 @@
 -- Running (document 01, "Run, live", "Ending" and "Run, closing").
---   runsOp code i st o   what process i does at op o of its code
+--   opTable, runsOp      what process i does at op o of its code, by the op's number
 --   closes st            what a closing process does
 --   runs code i st       what a run of process i does; code is that of its behaviour
 use mathlib.Core.Bool.{Bool, true, false, cond}
@@ -65,14 +65,13 @@ spawns i st o = done (record {
   born = some (record { number = o .process .0; process = fresh (o .behaviour) (pid i) });
 })
 
--- the table of ops, by number
-unfoldable pub runsOp : List Op → ℕ → State → Op → Answer Effect
-runsOp code i st o =
+-- the ops by number, but for the last
+abbrev pub opTable : List Op → ℕ → State → Op → List (Answer Effect)
+opTable code i st o =
     let p = st .process in
     let r = register p (o .r) in
     let s = register p (o .s) in
-    getD
-    (setsRegister st (o .r) (o .value)  -- set,r,V
+    setsRegister st (o .r) (o .value)  -- set,r,V
     ∷ setsRegister st (o .r) s  -- copy,r,s
     ∷ setsRegister st (o .r) (pid i)  -- self,r
     ∷ adds st (o .r) r s  -- add,r,s
@@ -87,9 +86,10 @@ runsOp code i st o =
     ∷ becomes st (moved p (o .target))  -- jump,t
     ∷ jumpsIf st (sameValue r (o .value)) (o .target)  -- same,r,V,t
     ∷ compares st (o .target) r s  -- less,r,s,t
-    ∷ [])
-    (o .number)
-    (ends st r)  -- stop,r
+    ∷ []
+
+unfoldable pub runsOp : List Op → ℕ → State → Op → Answer Effect
+runsOp code i st o = getD (opTable code i st o) (o .number) (ends st (register (st .process) (o .r)))  -- stop,r
 
 -- the first of the given numbers that passes a test
 abbrev pub lowest : (ℕ → Bool) → List ℕ → Option ℕ
