@@ -726,7 +726,7 @@ module _ (codes : List (List Instruction)) (i : ℕ) (number : So (isNumber i)) 
         apart = tt;
       }
 
-  runs-good : (ops : List Op) → (So (leb 1 (st .process .behaviour .0) && leb (st .process .behaviour .0) (length codes)) → codeOf codes (st .process .behaviour .0) ≡ map instruction ops) → So (allOf (codeSound (length codes)) codes) → Good codes i (runs ops i st)
+  pub runs-good : (ops : List Op) → (So (leb 1 (st .process .behaviour .0) && leb (st .process .behaviour .0) (length codes)) → codeOf codes (st .process .behaviour .0) ≡ map instruction ops) → So (allOf (codeSound (length codes)) codes) → Good codes i (runs ops i st)
   unfolding runs
   runs-good ops same sounds = go (st .process .stage) refl
     where
@@ -780,7 +780,7 @@ module _ (codes : List (List Instruction)) (i : ℕ) (number : So (isNumber i)) 
     takes-good j n Link h = becomes-alive codes i st (linked (st .process) j) (linked-alive codes i (st .process) (st .mail) a j number n (not-true (eqb j i) h))
     takes-good j n Unlink h = becomes-alive codes i st (unlinked (st .process) j) (unlinked-alive codes i (st .process) (st .mail) a j)
 
-  arrives-good : (j : ℕ) → So (isNumber j) → (x : Signal) → So (signalSound j i x) → Good codes i (arrives i j st x)
+  pub arrives-good : (j : ℕ) → So (isNumber j) → (x : Signal) → So (signalSound j i x) → Good codes i (arrives i j st x)
   unfolding arrives
   arrives-good j n x h = go (st .process .stage) refl
     where
@@ -792,3 +792,16 @@ module _ (codes : List (List Instruction)) (i : ℕ) (number : So (isNumber i)) 
       go Live e = takes-good e j n x h
       go Closing e = dropped (ap isUnborn e)
       go Gone e = dropped (ap isUnborn e)
+
+-- ---- a mailbox emptied
+
+-- what is sound with some mailbox is sound with an emptied one
+pub emptied-sound : (codes : List (List Instruction)) (i : ℕ) (p : Process) (m b : Mailbox) → So (standingSound codes i (standing p m)) → So (standingSound codes i (standing p (emptied b)))
+unfolding standing
+emptied-sound codes i p m b h = go (p .stage) refl h
+  where
+    go : (s : Stage) → p .stage ≡ s → So (standingSound codes i (standingIn s p m)) → So (standingSound codes i (standingIn s p (emptied b)))
+    go Unborn e g = refl
+    go Live e g = subst (λ (s : Stage). So (standingSound codes i (standingIn s p (emptied b)))) e (alive-sound codes i p (emptied b) (mailed-alive codes i p m (alive codes i p m e h) (emptied b) (emptied-mailed b)))
+    go Closing e g = g
+    go Gone e g = refl

@@ -4,3 +4,5 @@ pub mod Suggest
 pub mod Ramp
 pub mod Firsts
 pub mod Keep
+pub mod Accepted
+pub mod Kept
