@@ -28,7 +28,7 @@ use Rattle.rules.specs.Effects.{Effect, Sending, Birth}
 use Rattle.rules.specs.Nodes.{Sound, sound, viewSound, view, behavioursOf, code, process, mailbox, row, standing, standingSound, signalSound, rowSound}
 use Rattle.rules.specs.Arrive.{arrives}
 use Rattle.rules.specs.Run.{runs}
-use Rattle.rules.specs.Steps.{Action, run, arrive, owner, at, withArrival, withSending, withBirth, withNoMail, commit, numbered, signalWaits, pairHasRoom, decide, step, state, Played, playsOn, played, play}
+use Rattle.rules.specs.Steps.{Action, run, arrive, owner, at, withArrival, withSending, withBirth, commit, numbered, signalWaits, pairHasRoom, decide, step, state, Played, playsOn, played, play}
 use Rattle.rules.specs.Values.{numbers, isNumber}
 use Rattle.rules.proofs.Accepted.{Act, Goes, step-goes}
 use Rattle.rules.proofs.All.{both, parts, allOf-at, allOf-map, made-length, made-at, made-all, all-made}
@@ -175,7 +175,7 @@ at-ok f X l m ok a b h j i c d = go (ℕ-discrete (pair j i) (pair l m))
         rw (w .0, w .1) (at-read (RowOk l m) noRow X (pair l m) f (empty-ok l m) h)
     go (no n) = unfold at in rw (getD-set-other X (pair l m) (pair j i) (f (getD X (pair l m) noRow)) noRow n) (ok j i c d)
 
-owner-number : (a : Action) → So (numbered a) → So (isNumber (owner a))
+pub owner-number : (a : Action) → So (numbered a) → So (isNumber (owner a))
 unfolding numbered
 owner-number (run i) h = h
 owner-number (arrive i j) h = parts (isNumber i) (isNumber j) h .0
@@ -186,7 +186,7 @@ arrival-ok X (run i) ok h = ok
 arrival-ok X (arrive i j) ok h = let w = parts (isNumber i) (isNumber j) h in at-ok popped X j i ok (w .1) (w .0) (popped-ok j i _ (ok j i (w .1) (w .0)))
 
 -- an arrival makes no row longer
-arrival-count : (X : List Row) (a : Action) (k : ℕ) → getD (withArrival X a) k noRow .count ≤ getD X k noRow .count
+pub arrival-count : (X : List Row) (a : Action) (k : ℕ) → getD (withArrival X a) k noRow .count ≤ getD X k noRow .count
 arrival-count X (run i) k = omega arith
 arrival-count X (arrive i j) k = go (ℕ-discrete k (pair j i))
   where
@@ -232,7 +232,7 @@ module _ (codes : List (List Instruction)) where
           let d = index i m k n q in
           rw (getD-set-other ps (m - 1) (i - 1) p noProcess d, getD-set-other ms (m - 1) (i - 1) b noMailbox d) (ok i k)
 
-  birth-ok : (ps : List Process) (ms : List Mailbox) (b : Option Birth) → StandsOk ps ms → BornOk codes b → StandsOk (withBirth ps b) (withNoMail ms b)
+  birth-ok : (ps : List Process) (ms : List Mailbox) (b : Option Birth) → StandsOk ps ms → BornOk codes b → StandsOk (withBirth noProcess (λ b p. b .process) ps b) (withBirth noMailbox (λ b m. emptied m) ms b)
   unfolding at
   birth-ok ps ms none ok h = ok
   birth-ok ps ms (some b) ok h = owner-ok ps ms (b .number) (b .process) (emptied (getD ms (b .number - 1) noMailbox)) ok (h .number) (h .sound (getD ms (b .number - 1) noMailbox))

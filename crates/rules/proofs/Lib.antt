@@ -6,3 +6,5 @@ pub mod Firsts
 pub mod Keep
 pub mod Accepted
 pub mod Kept
+pub mod Trace
+pub mod Commute

@@ -2,7 +2,8 @@
 --   Call              a single step, or a play
 --   after n l         the node after a list of calls; a refused step leaves the node and the list goes on
 --   accepted n l      the steps that are accepted in the list, in their order
---   acceptedBy i n l  those of them that process i owns
+--   owned f i l       those steps of a list whose owner, by f, is i
+--   acceptedBy i n l  the accepted steps of the list that process i owns
 use mathlib.Core.Bool.{cond}
 use mathlib.Core.List.{List, [], _∷_, _++_}
 use Prim.Native.Nat.{ℕ}
@@ -41,10 +42,11 @@ unfoldable pub accepted : Node → List Call → List Action
 accepted n [] = []
 accepted n (c ∷ cs) = callSteps n c ++ accepted (callNode n c) cs
 
--- "A process's steps are those it owns"
-unfoldable pub owned : ℕ → List Action → List Action
-owned i [] = []
-owned i (a ∷ l) = cond (eqb (owner a) i) (a ∷ owned i l) (owned i l)
+-- "A process's steps are those it owns"; for steps of any kind
+module _ {S : Type 0} (ownerOf : S → ℕ) where
+  unfoldable pub owned : ℕ → List S → List S
+  owned i [] = []
+  owned i (a ∷ l) = cond (eqb (ownerOf a) i) (a ∷ owned i l) (owned i l)
 
 abbrev pub acceptedBy : ℕ → Node → List Call → List Action
-acceptedBy i n cs = owned i (accepted n cs)
+acceptedBy i n cs = owned owner i (accepted n cs)

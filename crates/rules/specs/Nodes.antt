@@ -6,10 +6,11 @@
 --   view n         what the record n holds
 --   Equal n m      equal nodes
 --   sound n        "A node is sound when"; Sound n is its proposition
+--   Sized n        the arrays of n are as long as their types say
 use mathlib.Core.Bool.{Bool, true, _&&_, not, So}
 use mathlib.Core.List.{List, [], _∷_, map}
 use mathlib.Core.Path.{_≡_}
-use Prim.Native.Nat.{ℕ, _-_, _*_}
+use Prim.Native.Nat.{ℕ, _-_, _*_, _<_}
 use lib.Dec.{leb, eqb}
 use lib.ListN.{length, getD, drop}
 use Rattle.node.specs.declared.Mailbox.{Mailbox}
@@ -140,3 +141,9 @@ sound n = viewSound (view n)
 
 abbrev pub Sound : Node → Type 0
 Sound n = So (sound n)
+
+-- Beside the test: the arrays are as long as their types say, which holds of every node that code can hold.
+pub record Sized (n : Node) : Type 0 where
+  pub processes : length (n .processes) ≡ 16
+  pub flight : length (n .flight) ≡ 256
+  pub cells : (k : ℕ) → k < 256 → length (getD (n .flight) k noRow .cells) ≡ 4

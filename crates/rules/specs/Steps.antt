@@ -22,7 +22,7 @@ use Rattle.node.specs.declared.Stage.{Stage}
 use Rattle.node.specs.declared.Stage.the-variants.{Unborn, Live, Closing, Gone}
 use Rattle.node.specs.declared.Step.{Step}
 use Rattle.node.specs.Mailboxes.{emptied}
-use Rattle.node.specs.Nodes.{noMailbox, noRow, pair}
+use Rattle.node.specs.Nodes.{noProcess, noMailbox, noRow, pair}
 use Rattle.node.specs.Rows.{oldest, pushed, popped}
 use Rattle.rules.specs.Answers.{Answer, refused, done, need, goOn, badNumber, ownerUnborn, noneInFlight, pairFull, notUnborn, notSound, tooLong}
 use Rattle.rules.specs.Arrive.{arrives}
@@ -97,21 +97,18 @@ abbrev pub withSending : List Row → ℕ → Option Sending → List Row
 withSending rows i none = rows
 withSending rows i (some x) = at noRow (λ r. pushed r (x .signal)) (pair i (x .to)) rows
 
-abbrev pub withBirth : List Process → Option Birth → List Process
-withBirth ps none = ps
-withBirth ps (some b) = set ps (b .number - 1) (b .process)
-
-abbrev pub withNoMail : List Mailbox → Option Birth → List Mailbox
-withNoMail ms none = ms
-withNoMail ms (some b) = at noMailbox emptied (b .number - 1) ms
+-- in a list with an element to a process, that of the process that is brought to life changes
+abbrev pub withBirth : {A : Type 0} → A → (Birth → A → A) → List A → Option Birth → List A
+withBirth d f l none = l
+withBirth d f l (some b) = at d (f b) (b .number - 1) l
 
 unfoldable pub commit : Node → Action → Effect → Node
 commit n a e = record {
   count = n .count;
   lens = n .lens;
   ops = n .ops;
-  processes = withBirth (set (n .processes) (owner a - 1) (e .process)) (e .born);
-  mail = withNoMail (set (n .mail) (owner a - 1) (e .mail)) (e .born);
+  processes = withBirth noProcess (λ b p. b .process) (set (n .processes) (owner a - 1) (e .process)) (e .born);
+  mail = withBirth noMailbox (λ b m. emptied m) (set (n .mail) (owner a - 1) (e .mail)) (e .born);
   flight = withSending (withArrival (n .flight) a) (owner a) (e .sent);
 }
 
