@@ -1,13 +1,11 @@
 -- Laws of `firsts`, `leave` and `allFrom`, for elements of any type. Assumes nothing.
-use mathlib.Core.Bool.{Bool, true, false, So, _&&_, and-eq-true-iff}
 use mathlib.Core.List.{List, [], _∷_, _++_, map}
-use mathlib.Core.Path.{_≡_, refl, sym, _∙_, ap}
-use Prim.Native.Nat.{ℕ, zero, suc, _+_, _-_, _≤_, _<_}
+use mathlib.Core.Path.{_≡_, refl, _∙_, ap}
+use Prim.Native.Nat.{ℕ, zero, suc, _≤_, _<_}
 use native.Mathlib.Nat.{not-suc-le-zero, le-of-suc-le-suc}
-use native.Mathlib.Numerals.{add-one, sub-one}
-use native.Mathlib.Omega.{arith}
+use native.Mathlib.Numerals.{add-one}
 use lib.ListN.{length, getD, take, drop, set, length-append}
-use Rattle.node.specs.Lists.{firsts, leave, allFrom, allOf}
+use Rattle.node.specs.Lists.{firsts, leave}
 
 module _ {A : Type 0} where
   pub firsts-length : (d : A) (n : ℕ) (l : List A) → length (firsts d n l) ≡ n

@@ -6,7 +6,7 @@
 --   pushed r x    signal x is put in flight, behind the others
 --   popped r      the oldest signal leaves
 use mathlib.Core.List.{List, map}
-use Prim.Native.Nat.{ℕ, _+_, _-_, min}
+use Prim.Native.Nat.{_+_, _-_, min}
 use lib.ListN.{getD, set, replicate}
 use Rattle.node.specs.declared.Cell.{Cell}
 use Rattle.node.specs.declared.Row.{Row}

@@ -1,6 +1,6 @@
 -- An accepted step taken apart: the checks that it passed, the effect that its owner decided on, and the node that was stored. Assumes nothing.
 use mathlib.Core.Bool.{Bool, true, false, So}
-use mathlib.Core.Path.{_≡_, refl, sym, _∙_, ap}
+use mathlib.Core.Path.{_≡_, refl, _∙_, ap}
 use Prim.Native.Nat.{ℕ}
 use native.Mathlib.Omega.{arith}
 use Rattle.node.specs.declared.Node.{Node}

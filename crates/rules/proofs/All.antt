@@ -1,11 +1,11 @@
 -- A test over a list, and the proposition that it stands for; for elements of any type. Assumes nothing.
-use mathlib.Core.Bool.{Bool, true, false, So, not, _&&_, and-eq-true-iff}
+use mathlib.Core.Bool.{Bool, So, _&&_, and-eq-true-iff}
 use mathlib.Core.List.{List, [], _∷_, _++_, map, flatMap}
-use mathlib.Core.Path.{_≡_, refl, sym, _∙_, ap}
+use mathlib.Core.Path.{_≡_, refl, _∙_, ap}
 use Prim.Native.Nat.{ℕ, zero, suc, _+_, _-_, _≤_, _<_}
 use native.Mathlib.Nat.{not-suc-le-zero, le-of-suc-le-suc}
 use native.Mathlib.Omega.{arith}
-use lib.ListN.{length, getD, set, length-map, List·getD-map}
+use lib.ListN.{length, getD, length-map}
 use Rattle.node.specs.Lists.{rising, allFrom, allOf, allTwo}
 
 pub both : {a b : Bool} → So a → So b → So (a && b)

@@ -1,11 +1,11 @@
 -- Steps of two owners commute: what the commit of one stores, the decision of the other does not read, and the two commits can change places.
 -- Nothing here knows an op or a signal. Assumes nothing.
 use mathlib.Core.Bool.{Bool, true, false, not, So, false≢true}
-use mathlib.Core.List.{List, [], _∷_, _++_}
+use mathlib.Core.List.{List, [], _∷_, map}
 use mathlib.Core.Logic.{_≢_}
 use mathlib.Core.Option.{Option, none, some}
-use mathlib.Core.Path.{_≡_, refl, sym, _∙_, ap, ap₂}
-use Prim.Native.Nat.{ℕ, zero, suc, _+_, _-_, _*_, _≤_, _<_, min}
+use mathlib.Core.Path.{_≡_, refl, sym, _∙_, ap}
+use Prim.Native.Nat.{ℕ, zero, suc, _+_, _-_, _≤_, _<_, min}
 use native.Mathlib.Nat.{not-suc-le-zero, le-of-suc-le-suc}
 use native.Mathlib.Numerals.{sub-one}
 use native.Mathlib.Decide.{ℕ-discrete}
@@ -14,27 +14,24 @@ use borrow.Author.Tests.{lt-ltb, ltb-true}
 use lib.ListN.{length, getD, set, length-set}
 use lib.Seq.{getD-set-same, getD-set-other, set-append-left}
 use Rattle.node.specs.declared.Cell.{Cell}
-use Rattle.node.specs.declared.Mailbox.{Mailbox}
 use Rattle.node.specs.declared.Node.{Node}
 use Rattle.node.specs.declared.Process.{Process}
 use Rattle.node.specs.declared.Row.{Row}
 use Rattle.node.specs.declared.Signal.{Signal}
-use Rattle.node.specs.Lists.{leave}
+use Rattle.node.specs.Lists.{firsts, leave}
 use Rattle.node.specs.Mailboxes.{emptied}
 use Rattle.node.specs.Nodes.{noProcess, noMailbox, noRow, pair}
-use Rattle.node.specs.Rows.{noSignal, oldest, pushed, popped}
-use Rattle.node.proofs.Lists.{leave-length}
-use Rattle.rules.specs.Answers.{Answer, refused, done}
+use Rattle.node.specs.Rows.{noSignal, signals, oldest, pushed, popped}
+use Rattle.rules.specs.Answers.{done}
 use Rattle.rules.specs.Behaviours.{Instruction}
 use Rattle.rules.specs.Effects.{Effect, Sending, Birth}
-use Rattle.rules.specs.Nodes.{Sound, Sized, behavioursOf, code, process, mailbox, row}
+use Rattle.rules.specs.Nodes.{Sized, behavioursOf, code, process, mailbox, row}
 use Rattle.rules.specs.Run.{runs}
-use Rattle.rules.specs.Arrive.{arrives}
-use Rattle.rules.specs.Steps.{Action, run, arrive, owner, isUnborn, at, withArrival, withSending, withBirth, commit, numbered, ownerBorn, signalWaits, pairHasRoom, numberFree, decide, state}
+use Rattle.rules.specs.Steps.{Action, run, arrive, owner, isUnborn, at, withArrival, withSending, withBirth, commit, numbered, ownerBorn, signalWaits, pairHasRoom, numberFree, incoming, decide}
 use Rattle.rules.specs.Values.{isNumber}
 use Rattle.rules.proofs.Accepted.{Act}
 use Rattle.rules.proofs.All.{parts}
-use Rattle.rules.proofs.Keep.{SentOk, BornOk, BirthOk, Keeps}
+use Rattle.rules.proofs.Keep.{SentOk, BornOk, Keeps}
 use Rattle.rules.proofs.Kept.{pair-same, owner-number, arrival-count}
 use Rattle.rules.proofs.Records.{number-bounds}
 
@@ -93,11 +90,11 @@ module _ (r : Row) (four : length (r .cells) ≡ 4) (x : Signal) where
 -- ---- births
 
 -- b brings no process to life at index k
-Off : Option Birth → ℕ → Type 0
+unfoldable pub Off : Option Birth → ℕ → Type 0
 Off none k = Unit {0}
 Off (some b) k = k ≢ b .number - 1
 
-Apart : Option Birth → Option Birth → Type 0
+unfoldable pub Apart : Option Birth → Option Birth → Type 0
 Apart none c = Unit {0}
 Apart (some b) c = Off c (b .number - 1)
 
@@ -130,7 +127,7 @@ module _ {A : Type 0} (d : A) (f : Birth → A → A) where
   bear-bear l (some b) none a = refl
   bear-bear l (some b) (some c) a = at-comm d (f c) (f b) l (c .number - 1) (b .number - 1) (λ e. a (sym e))
 
-  bear-length : (l : List A) (b : Option Birth) → length (bear l b) ≡ length l
+  pub bear-length : (l : List A) (b : Option Birth) → length (bear l b) ≡ length l
   bear-length l none = refl
   bear-length l (some b) = at-length d (f b) l (b .number - 1)
 
@@ -157,7 +154,7 @@ abbrev procs : List Process → Option Birth → List Process
 procs = withBirth noProcess (λ b p. b .process)
 
 -- who is born is not brought to life
-free-off : (n : Node) (c : Option Birth) (k : ℕ) → So (numberFree n c) → Awake (getD (n .processes) k noProcess) → Off c k
+pub free-off : (n : Node) (c : Option Birth) (k : ℕ) → So (numberFree n c) → Awake (getD (n .processes) k noProcess) → Off c k
 unfolding Off numberFree
 free-off n none k f a = tt
 free-off n (some c) k f a = λ e. clash (isUnborn (process n (c .number) .stage)) f (rw e at a)
@@ -246,11 +243,11 @@ rows-swap n z a b o q na nb h ga gb c d ra rb =
 
 -- ---- a step of another owner leaves a decision as it was
 
-arrival-length : (X : List Row) (a : Action) → length (withArrival X a) ≡ length X
+pub arrival-length : (X : List Row) (a : Action) → length (withArrival X a) ≡ length X
 arrival-length X (run i) = refl
 arrival-length X (arrive i j) = at-length noRow popped X (pair j i)
 
-sending-length : (X : List Row) (i : ℕ) (o : Option Sending) → length (withSending X i o) ≡ length X
+pub sending-length : (X : List Row) (i : ℕ) (o : Option Sending) → length (withSending X i o) ≡ length X
 sending-length X i none = refl
 sending-length X i (some x) = at-length noRow (λ r. pushed r (x .signal)) X (pair i (x .to))
 
@@ -293,6 +290,16 @@ unfolding pairHasRoom
 has-room n i none h = refl
 has-room n i (some x) h = lt-ltb (row n i (x .to) .count) 4 (h x refl)
 
+-- the signal that arrives is the row's oldest
+pub incoming-oldest : (n : Node) (j i : ℕ) → 0 < row n j i .count → incoming n j i ≡ oldest (row n j i)
+unfolding incoming signals oldest
+incoming-oldest n j i h = go (row n j i .count) (row n j i .cells) h
+  where
+    go : (k : ℕ) (l : List Cell) → 0 < k → getD (map (λ (c : Cell). c .signal) (firsts noSignal k l)) 0 (noSignal .signal) ≡ getD l 0 noSignal .signal
+    go zero l g = absurd (not-suc-le-zero g)
+    go (suc k) [] g = refl
+    go (suc k) (c ∷ l) g = refl
+
 -- a decision reads the code, the owner's process and mailbox, and the oldest signal of one row, and nothing else
 heard : (n w : Node) (a : Action) (e : Effect) → Act n a e → ((b : ℕ) → code w b ≡ code n b) → process w (owner a) ≡ process n (owner a) → mailbox w (owner a) ≡ mailbox n (owner a) → ((j : ℕ) → So (isNumber j) → 0 < row n j (owner a) .count → Same (row n j (owner a)) (row w j (owner a))) → So (signalWaits w a) × (decide w a ≡ done e)
 unfolding Same decide signalWaits numbered
@@ -300,8 +307,10 @@ heard n w (run i) e t c p m k =
     (refl, ap (λ (q : Process). runs (code w (q .behaviour .0)) i (record { process = q; mail = mailbox w i })) p ∙ rw (c (process n i .behaviour .0), m) (t .decided))
 heard n w (arrive i j) e t c p m k =
     let v = parts (isNumber i) (isNumber j) (t .numbers) in
-    let x = k j (v .1) (ltb-true 0 (row n j i .count) (t .waits)) in
-    (lt-ltb 0 (row w j i .count) (x .0), rw (p, m, x .1) (t .decided))
+    let g = ltb-true 0 (row n j i .count) (t .waits) in
+    let x = k j (v .1) g in
+    let same : incoming w j i ≡ incoming n j i = incoming-oldest w j i (x .0) ∙ x .1 ∙ sym (incoming-oldest n j i g) in
+    (lt-ltb 0 (row w j i .count) (x .0), rw (p, m, same) (t .decided))
 
 -- ---- two accepted decisions of two owners
 
@@ -318,7 +327,7 @@ module _ (n : Node) (z : Sized n) (a b : Action) (e f : Effect) (h : owner a ≢
       let y = number-bounds (owner b) m in
       h (omega arith)
 
-  off-a : Off (f .born) (owner a - 1)
+  pub off-a : Off (f .born) (owner a - 1)
   unfolding ownerBorn
   off-a = free-off n (f .born) (owner a - 1) free (s .awake)
 
@@ -340,7 +349,7 @@ module _ (n : Node) (z : Sized n) (a b : Action) (e f : Effect) (h : owner a ≢
   row-kept j c d =
       same-sending (withArrival (n .flight) b) (owner b) (f .sent) j (owner a) (row n j (owner a)) (arrival-length (n .flight) b ∙ z .flight) c i (row-arrival (n .flight) b j (owner a) (t .numbers) c i h) (cells-at n z j (owner a) c i) d (room-arrival n b (owner b) (f .sent) (t .room))
 
-  act-kept : Act (commit n b f) a e
+  pub act-kept : Act (commit n b f) a e
   unfolding ownerBorn commit
   act-kept =
       let x = heard n (commit n b f) a e s code-kept process-kept mailbox-kept row-kept in
@@ -354,7 +363,7 @@ module _ (n : Node) (z : Sized n) (a b : Action) (e f : Effect) (h : owner a ≢
 
   -- where a can still bring its process to life behind b
   module _ (w : So (numberFree (commit n b f) (e .born))) where
-    free-back : (o : Option Birth) → So (numberFree (commit n b f) o) → Off o (owner b - 1) × So (numberFree n o) × Apart o (f .born)
+    pub free-back : (o : Option Birth) → So (numberFree (commit n b f) o) → Off o (owner b - 1) × So (numberFree n o) × Apart o (f .born)
     unfolding commit Off Apart numberFree
     free-back none u = (tt, refl, tt)
     free-back (some c) u =
@@ -362,7 +371,7 @@ module _ (n : Node) (z : Sized n) (a b : Action) (e f : Effect) (h : owner a ≢
         let x = was-unborn (behavioursOf n) (n .processes) (owner b - 1) (c .number - 1) (f .process) (f .born) (z .processes) (omega arith) (fk .born) (fk .birth) u in
         (λ p. x .0 (sym p), x .2, x .1)
 
-    commits-swap : commit (commit n a e) b f ≡ commit (commit n b f) a e
+    pub commits-swap : commit (commit n a e) b f ≡ commit (commit n b f) a e
     unfolding commit
     commits-swap =
         let x = free-back (e .born) w in
@@ -376,7 +385,7 @@ module _ (n : Node) (z : Sized n) (a b : Action) (e f : Effect) (h : owner a ≢
         }
 
     -- b can bring its process to life behind a
-    free-on : (o : Option Birth) → So (numberFree n o) → Off o (owner a - 1) → Apart (e .born) o → So (numberFree (commit n a e) o)
+    pub free-on : (o : Option Birth) → So (numberFree n o) → Off o (owner a - 1) → Apart (e .born) o → So (numberFree (commit n a e) o)
     unfolding commit Off numberFree
     free-on none u q c = refl
     free-on (some r) u q c = rw (unmoved noProcess (λ b p. b .process) (n .processes) (owner a - 1) (r .number - 1) (e .process) (e .born) (λ p. q (sym p)) (apart-off (e .born) r c)) u

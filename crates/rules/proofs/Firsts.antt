@@ -1,13 +1,11 @@
 -- Tests of what an array and its count hold, kept when an element joins, leaves or is changed where it stands.
 -- No array's length is asked for: what a store past the end drops, a read there does not see. Assumes nothing.
-use mathlib.Core.Bool.{Bool, true, false, So, _&&_}
-use mathlib.Core.List.{List, [], _∷_, _++_}
-use mathlib.Core.Path.{_≡_, refl, sym, _∙_}
-use mathlib.Core.Logic.{_≢_}
-use Prim.Native.Nat.{ℕ, zero, suc, _-_, _<_}
+use mathlib.Core.Bool.{Bool, false, So}
+use mathlib.Core.List.{List, [], _∷_}
+use mathlib.Core.Path.{_≡_, refl}
+use Prim.Native.Nat.{ℕ, zero, suc, _-_}
 use native.Mathlib.Numerals.{sub-one}
-use native.Mathlib.Omega.{arith}
-use lib.ListN.{length, getD, set}
+use lib.ListN.{getD, set}
 use Rattle.node.specs.Lists.{firsts, leave, allOf}
 use Rattle.node.proofs.Lists.{firsts-behind}
 use Rattle.rules.specs.Steps.{at}

@@ -5,14 +5,12 @@ use mathlib.Core.List.{List, [], _∷_, _++_, map}
 use mathlib.Core.Option.{Option, none, some}
 use mathlib.Core.Path.{_≡_, refl, sym, _∙_, ap, subst}
 use Prim.Native.Nat.{ℕ, zero, suc, _+_, _-_, _≤_, _<_, min}
-use native.Mathlib.Nat.{not-suc-le-zero}
-use native.Mathlib.Numerals.{add-one}
 use native.Mathlib.Omega.{arith}
-use borrow.Author.Tests.{leb-true, leb-false, le-leb, lt-ltb, eqb-true, eqb-false, ne-eqb, not-true, ltb-true}
+use borrow.Author.Tests.{leb-true, leb-false, le-leb, eqb-true, eqb-false, ne-eqb, not-true, ltb-true}
 use lib.Dec.{leb, ltb, eqb}
 use lib.IntN.{_+ℤ_}
 use lib.Signed.{ltZ}
-use lib.ListN.{length, getD, take, drop, set, replicate, length-map, length-take, length-drop, List·getD-map, List·getD-eq-default}
+use lib.ListN.{length, getD, take, drop, set, replicate, length-map, length-take, length-drop, List·getD-eq-default}
 use lib.Seq.{getD-set-other, getD-take, getD-drop, take-suc}
 use Rattle.node.specs.declared.BehaviourNumber.{BehaviourNumber}
 use Rattle.node.specs.declared.Mailbox.{Mailbox}
@@ -38,7 +36,7 @@ use Rattle.rules.specs.Answers.{Answer, refused, done, need}
 use Rattle.rules.specs.Arrive.{arrivesIn, arrives, takes, exits, joinsWith, notes}
 use Rattle.rules.specs.Behaviours.{Instruction, instruction, numeric, operand, operandInRange, inRange, onClause, isRecv, isClause, clauseCount, noInstruction, hasClauses, dueNext, due, targetFree, targetsFree, wellPlaced, codeSound}
 use Rattle.rules.specs.Effects.{State, Effect, Sending, Birth, becomes, ends, sends}
-use Rattle.rules.specs.Nodes.{Standing, running, standingIn, standing, linkSet, runningSound, standingSound, signalSound}
+use Rattle.rules.specs.Nodes.{standingIn, standing, linkSet, runningSound, standingSound, signalSound}
 use Rattle.rules.specs.Receive.{Fit, fits, firstClause, search, kept, receivesFit, receives}
 use Rattle.rules.specs.Run.{setsRegister, jumpsIf, adds, compares, toProcess, toOther, spawns, opTable, runsOp, lowest, closesTo, closes, runsLive, runsIn, runs}
 use Rattle.rules.specs.Steps.{isUnborn}

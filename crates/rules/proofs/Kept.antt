@@ -1,10 +1,10 @@
 -- Soundness is kept by every accepted step and by play. Assumes nothing.
-use mathlib.Core.Bool.{Bool, true, false, not, So, cond, _&&_}
+use mathlib.Core.Bool.{Bool, true, false, So, cond, _&&_}
 use mathlib.Core.List.{List, [], _∷_, map}
 use mathlib.Core.Logic.{_≢_}
 use mathlib.Core.Option.{Option, none, some}
-use mathlib.Core.Path.{_≡_, refl, sym, _∙_, ap, subst}
-use Prim.Native.Nat.{ℕ, zero, suc, _+_, _-_, _*_, _≤_, _<_, min}
+use mathlib.Core.Path.{_≡_, refl, _∙_, ap}
+use Prim.Native.Nat.{ℕ, suc, _+_, _-_, _≤_, _<_, min}
 use native.Mathlib.Decide.{ℕ-discrete}
 use native.Mathlib.Omega.{arith}
 use borrow.Author.Tests.{leb-true, le-leb, ltb-true, le-ltb}
@@ -20,7 +20,7 @@ use Rattle.node.specs.declared.Signal.{Signal}
 use Rattle.node.specs.Lists.{firsts, rising, allFrom, allOf}
 use Rattle.node.specs.Mailboxes.{emptied}
 use Rattle.node.specs.Nodes.{noProcess, noMailbox, noRow, pair}
-use Rattle.node.specs.Rows.{noSignal, signals, oldest, pushed, popped}
+use Rattle.node.specs.Rows.{noSignal, signals, pushed, popped}
 use Rattle.node.proofs.Lists.{firsts-length}
 use Rattle.rules.specs.Answers.{Answer, refused, done}
 use Rattle.rules.specs.Behaviours.{Instruction, instruction, codeSound}
@@ -28,12 +28,12 @@ use Rattle.rules.specs.Effects.{Effect, Sending, Birth}
 use Rattle.rules.specs.Nodes.{Sound, sound, viewSound, view, behavioursOf, code, process, mailbox, row, standing, standingSound, signalSound, rowSound}
 use Rattle.rules.specs.Arrive.{arrives}
 use Rattle.rules.specs.Run.{runs}
-use Rattle.rules.specs.Steps.{Action, run, arrive, owner, at, withArrival, withSending, withBirth, commit, numbered, signalWaits, pairHasRoom, decide, step, state, Played, playsOn, played, play}
+use Rattle.rules.specs.Steps.{Action, run, arrive, owner, at, withArrival, withSending, withBirth, commit, numbered, signalWaits, pairHasRoom, incoming, decide, step, state, playsOn, played, play}
 use Rattle.rules.specs.Values.{numbers, isNumber}
-use Rattle.rules.proofs.Accepted.{Act, Goes, step-goes}
-use Rattle.rules.proofs.All.{both, parts, allOf-at, allOf-map, made-length, made-at, made-all, all-made}
+use Rattle.rules.proofs.Accepted.{Act, step-goes}
+use Rattle.rules.proofs.All.{both, parts, allOf-any, allOf-map, made-length, made-at, made-all, all-made}
 use Rattle.rules.proofs.Firsts.{firsts-joined, firsts-left, set-read, at-read}
-use Rattle.rules.proofs.Keep.{SentOk, BornOk, BirthOk, Keeps, Good, emptied-sound, runs-good, arrives-good}
+use Rattle.rules.proofs.Keep.{SentOk, BornOk, Keeps, Good, emptied-sound, runs-good, arrives-good}
 use Rattle.rules.proofs.Records.{number-bounds}
 
 -- ---- a sound node, part by part
@@ -128,15 +128,10 @@ module _ (j i : ℕ) where
   pub row-count : (r : Row) → RowOk r → r .count ≤ 4
   row-count r h = row-parts r h .0
 
-  -- the oldest signal of a row that has one
-  pub oldest-sound : (r : Row) → RowOk r → 0 < r .count → So (signalSound j i (oldest r))
-  unfolding oldest
-  oldest-sound r h g = go (r .count) (r .cells) g (row-parts r h .1)
-    where
-      go : (n : ℕ) (l : List Cell) → 0 < n → So (allOf signalOk (firsts noSignal n l)) → So (signalSound j i (getD l 0 noSignal .signal))
-      go zero l p q = absurd (omega arith)
-      go (suc n) [] p q = refl
-      go (suc n) (c ∷ l) p q = unfold signalOk in parts (signalSound j i (c .signal)) (allOf signalOk (firsts noSignal n l)) q .0
+  -- each of its signals is sound
+  pub row-signals : (r : Row) → RowOk r → So (allOf (signalSound j i) (signals r))
+  unfolding rowSound
+  row-signals r h = parts (leb (length (signals r)) 4) (allOf (signalSound j i) (signals r)) h .1
 
   empty-ok : RowOk noRow
   unfolding rowSound signals
@@ -242,18 +237,26 @@ module _ (codes : List (List Instruction)) where
 kept-of : {codes : List (List Instruction)} {i : ℕ} {e : Effect} (x : Answer Effect) → Good codes i x → x ≡ done e → Keeps codes i e
 kept-of x g q = rw q at g
 
--- what an accepted step does keeps what an effect must keep
-pub act-keeps : (n : Node) (a : Action) (e : Effect) → Parts n → Act n a e → Keeps (behavioursOf n) (owner a) e
-unfolding decide numbered signalWaits
-act-keeps n (run i) e p t =
+-- the signal that arrives is one of a sound row, or what is read where there is none
+incoming-sound : (n : Node) (j i : ℕ) → RowOk j i (row n j i) → So (signalSound j i (incoming n j i))
+unfolding incoming
+incoming-sound n j i h = allOf-any (signalSound j i) (noSignal .signal) (signals (row n j i)) refl (row-signals j i (row n j i) h) _
+
+-- what the owner of a step decides on keeps what an effect must keep
+pub decided-keeps : (n : Node) (a : Action) (e : Effect) → Parts n → So (numbered a) → So (signalWaits n a) → decide n a ≡ done e → Keeps (behavioursOf n) (owner a) e
+unfolding decide numbered
+decided-keeps n (run i) e p m w d =
     kept-of (runs (code n (process n i .behaviour .0)) i (state n i))
-    (runs-good (behavioursOf n) i (t .numbers) (state n i) (p .processes i (t .numbers)) (code n (process n i .behaviour .0)) (code-of n (process n i .behaviour .0)) (p .codes))
-    (t .decided)
-act-keeps n (arrive i j) e p t =
-    let w = parts (isNumber i) (isNumber j) (t .numbers) in
-    kept-of (arrives i j (state n i) (oldest (row n j i)))
-    (arrives-good (behavioursOf n) i (w .0) (state n i) (p .processes i (w .0)) j (w .1) (oldest (row n j i)) (oldest-sound j i (row n j i) (p .rows j i (w .1) (w .0)) (ltb-true 0 (row n j i .count) (t .waits))))
-    (t .decided)
+    (runs-good (behavioursOf n) i m (state n i) (p .processes i m) (code n (process n i .behaviour .0)) (code-of n (process n i .behaviour .0)) (p .codes))
+    d
+decided-keeps n (arrive i j) e p m w d =
+    let b = parts (isNumber i) (isNumber j) m in
+    kept-of (arrives i j (state n i) (incoming n j i))
+    (arrives-good (behavioursOf n) i (b .0) (state n i) (p .processes i (b .0)) j (b .1) (incoming n j i) (incoming-sound n j i (p .rows j i (b .1) (b .0))))
+    d
+
+pub act-keeps : (n : Node) (a : Action) (e : Effect) → Parts n → Act n a e → Keeps (behavioursOf n) (owner a) e
+act-keeps n a e p t = decided-keeps n a e p (t .numbers) (t .waits) (t .decided)
 
 pub commit-sound : (n : Node) (a : Action) (e : Effect) → Parts n → Act n a e → Parts (commit n a e)
 unfolding commit behavioursOf code

@@ -1,10 +1,13 @@
 pub mod All
-pub mod Records
-pub mod Suggest
-pub mod Ramp
 pub mod Firsts
+pub mod Records
 pub mod Keep
 pub mod Accepted
 pub mod Kept
 pub mod Trace
 pub mod Commute
+pub mod Order
+pub mod Suggest
+pub mod Sample
+pub mod Ramp
+pub mod Witness

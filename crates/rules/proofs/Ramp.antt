@@ -1,48 +1,37 @@
 -- The ramp checks of document 01, computed on the rules: P1 for every sound node, and one table for the others.
 -- The two checks without a number stand in the table too, and the play of the sample plan. Assumes nothing.
-use mathlib.Core.Bool.{Bool, true, false, not, So, cond, _&&_, _||_}
+use mathlib.Core.Bool.{Bool, true, false}
 use mathlib.Core.List.{List, [], _∷_, _++_, map}
-use mathlib.Core.Option.{none, some}
 use mathlib.Core.Path.{_≡_, refl}
-use Prim.Native.Nat.{ℕ, _-_}
-use lib.IntN.{pos}
+use Prim.Native.Nat.{ℕ}
 use lib.ListN.{set, replicate}
-use Rattle.node.specs.declared.Mailbox.{Mailbox}
 use Rattle.node.specs.declared.Message.{Message}
 use Rattle.node.specs.declared.Message.the-variants.{Plain, Note}
 use Rattle.node.specs.declared.Node.{Node}
 use Rattle.node.specs.declared.Op.{Op}
 use Rattle.node.specs.declared.Process.{Process}
-use Rattle.node.specs.declared.Row.{Row}
 use Rattle.node.specs.declared.Signal.{Signal}
-use Rattle.node.specs.declared.Signal.the-variants.{Msg, Exit, Link, Unlink}
-use Rattle.node.specs.declared.Slot.{Slot}
-use Rattle.node.specs.declared.Stage.the-variants.{Live, Closing, Gone}
+use Rattle.node.specs.declared.Signal.the-variants.{Msg, Exit, Link}
+use Rattle.node.specs.declared.Stage.the-variants.{Live}
 use Rattle.node.specs.declared.Value.{Value}
-use Rattle.node.specs.declared.Value.the-variants.{Int, Atom}
+use Rattle.node.specs.declared.Value.the-variants.{Atom}
 use Rattle.node.specs.Lists.{firsts}
 use Rattle.node.specs.Mailboxes.{noMessage, emptyMailbox, messages, joined, without, emptied}
 use Rattle.node.specs.Nodes.{pair}
 use Rattle.node.specs.Ops.{stopOp, kindsOf}
-use Rattle.node.specs.Processes.{unborn, fresh, register, withRegister, moved, advanced, trapped, linksTo, linked, unlinked, ended, gone, withPlace, withRegisters}
+use Rattle.node.specs.Processes.{unborn, fresh, register, withRegister, moved, advanced, trapped, linksTo, linked, unlinked, ended, gone, withPlace}
 use Rattle.node.specs.Rows.{noSignal, emptyRow, signals, oldest, pushed, popped}
 use Rattle.node.specs.Values.{intZero, normal, kill, killed, badarith, pid}
-use Rattle.rules.specs.Answers.{need}
 use Rattle.rules.specs.Arrive.{arrives, exits}
 use Rattle.rules.specs.Behaviours.{operand, instruction, operandInRange, inRange, hasClauses, targetsFree, wellPlaced, codeSound}
 use Rattle.rules.specs.Nodes.{Sound, sound, viewSound, view, behavioursOf, code, linkSet, standing, runningSound, rowSound}
 use Rattle.rules.specs.Receive.{receives, fits}
 use Rattle.rules.specs.Run.{runs, runsLive, runsOp, closes}
-use Rattle.rules.specs.Steps.{Action, run, arrive, Played, play, played, step, rule, ready, commit, decide, at, numbered, ownerBorn, signalWaits, pairHasRoom, numberFree}
+use Rattle.rules.specs.Steps.{Action, run, arrive, play, played, step, rule, ready, commit, incoming, decide, at, numbered, ownerBorn, signalWaits, pairHasRoom, numberFree}
 use Rattle.rules.specs.Values.{isNumber, fitsInt}
+use Rattle.rules.proofs.Sample.{opOf, int, sample, started}
 
 -- ---- a node to check on: processes 1 and 2 are started, the behaviours are those that the checks run
-
-opOf : ℕ → ℕ → ℕ → ℕ → ℕ → Value → Op
-opOf number r s target small v = record { number = number; r = r; s = s; target = target; small = small; value = v; process = record { 0 = 0 }; behaviour = record { 0 = 0 } }
-
-abbrev int : ℕ → Value
-int k = Int (pos k)
 
 -- 1 add,0,1   2 send,0,1   3 recv,2 with the clauses atom, int   4 spawn,1,1,1
 ramp-ops : List Op
@@ -70,17 +59,6 @@ world p ms j i xs = record {
 -- process 1 in behaviour b, with r0 = v, r1 = w, the trap flag and the links
 rower : ℕ → Value → Value → Bool → List Bool → Process
 rower b v w f links = record { stage = Live; behaviour = record { 0 = b }; place = 0; r0 = v; r1 = w; r2 = intZero; r3 = intZero; trap = f; links = links; reason = intZero }
-
--- document 01's sample plan, started
-sample : Process → Process → Node
-sample p q = record {
-  count = 2;
-  lens = 3 ∷ 2 ∷ replicate 6 0;
-  ops = firsts stopOp 32 (opOf 0 0 0 0 0 (pid 2) ∷ opOf 0 1 0 0 0 (int 12) ∷ opOf 4 0 1 0 0 intZero ∷ []) ++ firsts stopOp 32 (opOf 10 0 0 0 1 intZero ∷ opOf 11 0 1 2 1 intZero ∷ []) ++ replicate 192 stopOp;
-  processes = p ∷ q ∷ replicate 14 unborn;
-  mail = replicate 16 emptyMailbox;
-  flight = replicate 256 emptyRow;
-}
 
 -- ---- a check: what a play of these steps on this node answers
 
@@ -169,7 +147,7 @@ table =
     ∷ record { before = world closing [] 1 1 []; steps = run 1 ∷ run 1 ∷ []; accepted = 1; refusal = 22; after = world (gone closing) [] 1 1 [] }
     -- the sample plan, after run=1 three times, arrive=2,1, run=2
     ∷ record {
-      before = sample (fresh (record { 0 = 1 }) intZero) (fresh (record { 0 = 2 }) intZero);
+      before = started;
       steps = run 1 ∷ run 1 ∷ run 1 ∷ arrive 2 1 ∷ run 2 ∷ [];
       accepted = 5;
       refusal = 0;
@@ -186,5 +164,5 @@ unfolding NoSteps play played
 no-steps n h = rw h
 
 pub ramp : NoSteps × All table
-unfolding All Holds table arrival running refusing plain rower world fives sender spawner unlinkedLinks linkTwo sample ramp-ops opOf play played step rule ready commit decide at numbered ownerBorn signalWaits pairHasRoom numberFree sound viewSound view behavioursOf code linkSet standing runningSound rowSound receives fits runs runsLive runsOp closes arrives exits operand instruction operandInRange inRange hasClauses targetsFree wellPlaced codeSound isNumber fitsInt messages joined without emptied signals oldest pushed popped register withRegister moved advanced trapped linksTo linked unlinked ended gone kindsOf
+unfolding All Holds table arrival running refusing plain rower world fives sender spawner unlinkedLinks linkTwo sample started ramp-ops opOf play played step rule ready commit incoming decide at numbered ownerBorn signalWaits pairHasRoom numberFree sound viewSound view behavioursOf code linkSet standing runningSound rowSound receives fits runs runsLive runsOp closes arrives exits operand instruction operandInRange inRange hasClauses targetsFree wellPlaced codeSound isNumber fitsInt messages joined without emptied signals oldest pushed popped register withRegister moved advanced trapped linksTo linked unlinked ended gone kindsOf
 ramp = (no-steps, (refl, (refl, (refl, (refl, (refl, (refl, (refl, (refl, (refl, (refl, (refl, (refl, (refl, (refl, (refl, (refl, (refl, tt))))))))))))))))))

@@ -25,7 +25,7 @@ use Rattle.node.specs.Mailboxes.{noMessage, messages, joined, without, emptied}
 use Rattle.node.specs.Processes.{linksTo, linked, unlinked, ended, gone}
 use Rattle.node.specs.Rows.{noSignal, signals, oldest, pushed, popped}
 use Rattle.node.proofs.Lists.{firsts-join, firsts-leave, firsts-behind, map-append, map-take, map-drop}
-use Rattle.rules.specs.Nodes.{Equal, sound, viewSound, view, linkSet, standing}
+use Rattle.rules.specs.Nodes.{Equal, sound, viewSound, linkSet, standing}
 use Rattle.rules.specs.Nodes as nodes
 use Rattle.rules.specs.Values.{isNumber}
 

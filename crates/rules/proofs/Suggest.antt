@@ -1,16 +1,15 @@
 -- The 272 possible steps: no other step is ever accepted, so "none" is right exactly where it says that no step would be. Assumes nothing.
-use mathlib.Core.Bool.{Bool, true, false, So, not, _&&_}
-use mathlib.Core.List.{List, [], _∷_, map}
+use mathlib.Core.Bool.{Bool, true, false, So, not}
+use mathlib.Core.List.{map}
 use mathlib.Core.Option.{none}
-use mathlib.Core.Path.{_≡_, refl, sym, _∙_}
-use Prim.Native.Nat.{ℕ, _+_, _-_, _≤_, _<_}
+use mathlib.Core.Path.{_≡_, refl}
+use Prim.Native.Nat.{ℕ, _+_, _-_}
 use native.Mathlib.Omega.{arith}
 use borrow.Author.Tests.{not-true}
-use lib.ListN.{length, getD}
+use lib.ListN.{length}
 use Rattle.node.specs.declared.Node.{Node}
-use Rattle.node.specs.Lists.{allOf, rising}
-use Rattle.rules.specs.Answers.{Answer, refused, done, need, badNumber}
-use Rattle.rules.specs.Nodes.{sound}
+use Rattle.node.specs.Lists.{allOf}
+use Rattle.rules.specs.Answers.{done}
 use Rattle.rules.specs.Steps.{Action, run, arrive, step, rule, ready, numbered}
 use Rattle.rules.specs.Suggest.{ownedBy, possible, isDone, acceptable, Suggests}
 use Rattle.rules.specs.Values.{numbers, isNumber}

@@ -3,7 +3,7 @@
 --   exits i j st v b    what live process i does on exit(v, b) from j: the first line that applies
 --   takes i j st x      what live process i does with signal x from j
 --   arrives i j st x    what process i does with signal x from j
-use mathlib.Core.Bool.{Bool, true, false, cond, not, _&&_}
+use mathlib.Core.Bool.{Bool, cond, not, _&&_}
 use mathlib.Core.Option.{none}
 use Prim.Native.Nat.{ℕ}
 use lib.Dec.{ltb, eqb}

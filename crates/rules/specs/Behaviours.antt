@@ -4,7 +4,7 @@
 --   inRange c n x       12: each operand of x is in range, where the plan has c behaviours and the code n ops
 --   wellPlaced code t x 14: x, at place t of the code, is a recv with its clauses, a clause of a recv, or neither; its target is on no clause
 --   codeSound c code    a behaviour of a plan with c behaviours passes the plan's rules
-use mathlib.Core.Bool.{Bool, true, false, _&&_, _||_, not, cond}
+use mathlib.Core.Bool.{Bool, true, _&&_, _||_, not, cond}
 use mathlib.Core.List.{List, [], _∷_, map}
 use Prim.Native.Nat.{ℕ, _+_, _-_}
 use lib.Dec.{leb, ltb, eqb}

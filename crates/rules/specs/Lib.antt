@@ -9,3 +9,4 @@ pub mod Arrive
 pub mod Steps
 pub mod Suggest
 pub mod Calls
+pub mod Guarantees

@@ -11,19 +11,18 @@
 use mathlib.Core.Bool.{Bool, true, false, cond, not, _&&_}
 use mathlib.Core.List.{List, [], _∷_}
 use mathlib.Core.Option.{Option, none, some}
-use Prim.Native.Nat.{ℕ, zero, suc, _+_, _-_}
-use lib.Dec.{leb, ltb, eqb}
+use Prim.Native.Nat.{ℕ, _+_, _-_}
+use lib.Dec.{ltb}
 use lib.ListN.{length, getD, set}
-use Rattle.node.specs.declared.Mailbox.{Mailbox}
 use Rattle.node.specs.declared.Node.{Node}
-use Rattle.node.specs.declared.Process.{Process}
 use Rattle.node.specs.declared.Row.{Row}
+use Rattle.node.specs.declared.Signal.{Signal}
 use Rattle.node.specs.declared.Stage.{Stage}
 use Rattle.node.specs.declared.Stage.the-variants.{Unborn, Live, Closing, Gone}
 use Rattle.node.specs.declared.Step.{Step}
 use Rattle.node.specs.Mailboxes.{emptied}
 use Rattle.node.specs.Nodes.{noProcess, noMailbox, noRow, pair}
-use Rattle.node.specs.Rows.{oldest, pushed, popped}
+use Rattle.node.specs.Rows.{noSignal, signals, pushed, popped}
 use Rattle.rules.specs.Answers.{Answer, refused, done, need, goOn, badNumber, ownerUnborn, noneInFlight, pairFull, notUnborn, notSound, tooLong}
 use Rattle.rules.specs.Arrive.{arrives}
 use Rattle.rules.specs.Effects.{State, Effect, Sending, Birth}
@@ -80,9 +79,13 @@ numberFree n (some b) = isUnborn (process n (b .number) .stage)
 abbrev pub state : Node → ℕ → State
 state n i = record { process = process n i; mail = mailbox n i }
 
+-- "the oldest signal from j to i": the first in order of sending
+unfoldable pub incoming : Node → ℕ → ℕ → Signal
+incoming n j i = getD (signals (row n j i)) 0 (noSignal .signal)
+
 unfoldable pub decide : Node → Action → Answer Effect
 decide n (run i) = runs (code n (process n i .behaviour .0)) i (state n i)
-decide n (arrive i j) = arrives i j (state n i) (oldest (row n j i))
+decide n (arrive i j) = arrives i j (state n i) (incoming n j i)
 
 -- element k of a list, changed where it stands; d stands for what is past the end
 unfoldable pub at : {A : Type 0} → A → (A → A) → ℕ → List A → List A

@@ -1,0 +1,274 @@
+-- The guarantees of specs/Guarantees.antt: the order guarantee, soundness kept, refusals that exclude each other, stages that go forward.
+-- Assumes nothing.
+use mathlib.Core.Bool.{Bool, true, false, not, So, cond, false≢true}
+use mathlib.Core.List.{List, [], _∷_}
+use mathlib.Core.Logic.{_≢_}
+use mathlib.Core.Option.{Option, none, some}
+use mathlib.Core.Path.{_≡_, refl, sym, _∙_, ap}
+use Prim.Native.Nat.{ℕ, zero, suc, _-_, _≤_, _<_}
+use native.Mathlib.Decide.{ℕ-discrete}
+use native.Mathlib.Numerals.{add-one}
+use native.Mathlib.Omega.{arith}
+use lib.Dec.{ltb}
+use lib.ListN.{length, getD, set, take, drop, length-set}
+use lib.Seq.{getD-set-other}
+use Rattle.node.specs.declared.Node.{Node}
+use Rattle.node.specs.declared.Process.{Process}
+use Rattle.node.specs.declared.Row.{Row}
+use Rattle.node.specs.declared.Stage.{Stage}
+use Rattle.node.specs.declared.Stage.the-variants.{Unborn, Live, Closing, Gone}
+use Rattle.node.specs.Nodes.{noProcess, noRow, pair}
+use Rattle.node.specs.Processes.{gone, unlinked, linksTo}
+use Rattle.node.specs.Rows.{noSignal, pushed, popped}
+use Rattle.node.proofs.Lists.{leave-length}
+use Rattle.rules.specs.Answers.{Answer, refused, done}
+use Rattle.rules.specs.Calls.{Call, single, schedule, nodeBehind, ifAccepted, callNode, callSteps, after, accepted, acceptedBy}
+use Rattle.rules.specs.Effects.{Effect, Sending, Birth, State}
+use Rattle.rules.specs.Guarantees.{Order, SoundKept, Stopped, PlayIsSteps, undecided, full, taken, Exclusive, rank, Forward}
+use Rattle.rules.specs.Nodes.{sound, Sound, Sized, Equal, view, behavioursOf, code, process}
+use Rattle.rules.specs.Arrive.{arrivesIn, arrives}
+use Rattle.rules.specs.Run.{lowest, closesTo, closes, runsIn, runs}
+use Rattle.rules.specs.Values.{numbers}
+use Rattle.rules.specs.Steps.{Action, run, arrive, owner, isUnborn, ownerBorn, pairHasRoom, numberFree, at, withArrival, withSending, withBirth, state, incoming, commit, decide, step, playsOn, played, play}
+use Rattle.rules.proofs.Accepted.{Act, goes-rule, step-rule, step-goes}
+use Rattle.rules.proofs.Commute.{at-here, at-else, arrival-length, sending-length, bear-length, act-kept, free-back, free-on, Off, free-off, off-a, commits-swap}
+use Rattle.rules.proofs.Keep.{Keeps, NotBoth}
+use Rattle.rules.proofs.Kept.{parts-of, decided-keeps, act-keeps, step-sound, play-sound, play-played, owner-number}
+use Rattle.rules.proofs.Records.{number-bounds}
+use Rattle.rules.proofs.Trace.{Runs, runs-append, Laws, order-runs}
+
+-- ---- arrays keep their lengths
+
+module _ (X : List Row) (long : length X ≡ 256) (four : (k : ℕ) → k < 256 → length (getD X k noRow .cells) ≡ 4) (f : Row → Row) (keeps : (r : Row) → length (f r .cells) ≡ length (r .cells)) where
+  cells-at : (l k : ℕ) → k < 256 → length (getD (at noRow f l X) k noRow .cells) ≡ 4
+  cells-at l k h = go (ℕ-discrete k l)
+    where
+      go : Dec (k ≡ l) → length (getD (at noRow f l X) k noRow .cells) ≡ 4
+      go (yes e) = rw (← e, at-here noRow f X k (rw long h)) (keeps (getD X k noRow) ∙ four k h)
+      go (no n) = rw (at-else noRow f X l k n) (four k h)
+
+arrival-cells : (X : List Row) (a : Action) → length X ≡ 256 → ((k : ℕ) → k < 256 → length (getD X k noRow .cells) ≡ 4) → (k : ℕ) → k < 256 → length (getD (withArrival X a) k noRow .cells) ≡ 4
+unfolding popped
+arrival-cells X (run i) long four = four
+arrival-cells X (arrive i j) long four = cells-at X long four popped (λ r. leave-length noSignal 0 (r .cells)) (pair j i)
+
+sending-cells : (X : List Row) (i : ℕ) (o : Option Sending) → length X ≡ 256 → ((k : ℕ) → k < 256 → length (getD X k noRow .cells) ≡ 4) → (k : ℕ) → k < 256 → length (getD (withSending X i o) k noRow .cells) ≡ 4
+unfolding pushed
+sending-cells X i none long four = four
+sending-cells X i (some x) long four = cells-at X long four (λ r. pushed r (x .signal)) (λ r. length-set (r .cells) (r .count) _) (pair i (x .to))
+
+sized-kept : (n : Node) (a : Action) (e : Effect) → Sized n → Sized (commit n a e)
+unfolding commit
+sized-kept n a e z = record {
+  processes = bear-length noProcess (λ b p. b .process) (set (n .processes) (owner a - 1) (e .process)) (e .born) ∙ length-set (n .processes) (owner a - 1) (e .process) ∙ z .processes;
+  flight = sending-length (withArrival (n .flight) a) (owner a) (e .sent) ∙ arrival-length (n .flight) a ∙ z .flight;
+  cells = sending-cells (withArrival (n .flight) a) (owner a) (e .sent) (arrival-length (n .flight) a ∙ z .flight) (arrival-cells (n .flight) a (z .flight) (z .cells));
+}
+
+-- ---- the laws of steps
+
+-- the numbers of the owners
+abbrev Owner : ℕ → Type 0
+Owner i = (1 ≤ i) × (i ≤ 16)
+
+abbrev Whole : Node → Type 0
+Whole n = Sized n × Sound n
+
+Ready : Node → Action → Type 0
+Ready n a = (e : Effect) × Act n a e
+
+swaps : (n m k : Node) (a b : Action) → Whole n → owner a ≢ owner b → Ready n a → step n b ≡ done m → step m a ≡ done k → (l : Node) × (step n a ≡ done l) × (step l b ≡ done k)
+unfolding Ready
+swaps n m k a b w h r p q =
+    let parts = parts-of n (w .1) in
+    let x = step-goes n b m p .1 in
+    let e = r .0 in
+    let f = x .effect in
+    let s = r .1 in
+    let t = x .act in
+    let ek = act-keeps n a e parts s in
+    let fk = act-keeps n b f parts t in
+    let y = step-goes (commit n b f) a k (rw (x .to) at q) .1 in
+    let c = act-kept n (w .0) a b e f h s t ek fk (x .free) in
+    let d : y .effect ≡ e = cc (y .act .decided, c .decided) in
+    let free : So (numberFree (commit n b f) (e .born)) = rw d at (y .free) in
+    let z = free-back n (w .0) a b e f h s t ek fk (x .free) free (e .born) free in
+    let l = commit n a e in
+    let first : step n a ≡ done l = step-rule n a (w .1) ∙ goes-rule n a e s (z .1) in
+    let behind : Act l b f = act-kept n (w .0) b a f e (λ o. h (sym o)) t s fk ek (z .1) in
+    let still : So (numberFree l (f .born)) = free-on n (w .0) a b e f h s t ek fk (x .free) free (f .born) (x .free) (off-a n (w .0) a b e f h s t ek fk (x .free)) (z .2) in
+    let second : step l b ≡ done (commit l b f) = step-rule l b (step-sound n l a first) ∙ goes-rule l b f behind still in
+    let same : commit l b f ≡ k = commits-swap n (w .0) a b e f h s t ek fk (x .free) free ∙ ap (commit (commit n b f) a) (sym d) ∙ sym (y .to) in
+    (l, first, second ∙ ap done same)
+
+laws : Laws step owner Owner Whole Ready
+unfolding Ready
+laws = record {
+  owns = λ n m a p. number-bounds (owner a) (owner-number a (step-goes n a m p .1 .act .numbers));
+  sound = λ n m a w p. let x = step-goes n a m p .1 in (rw (x .to) (sized-kept n a (x .effect) (w .0)), step-sound n m a p);
+  ready = λ n m a w p. let x = step-goes n a m p .1 in (x .effect, x .act);
+  keeps = λ n m a b w h r p.
+      let x = step-goes n b m p .1 in
+      let parts = parts-of n (w .1) in
+      (r .0, rw (x .to) (act-kept n (w .0) a b (r .0) (x .effect) h (r .1) (x .act) (act-keeps n a (r .0) parts (r .1)) (act-keeps n b (x .effect) parts (x .act)) (x .free)));
+  swaps = swaps;
+}
+
+-- ---- lists of calls
+
+-- a play runs through the steps that it accepts
+played-runs : (n : Node) (l : List Action) → Runs step n (take (played n l .accepted) l) (played n l .node)
+unfolding played
+played-runs n [] = refl
+played-runs n (a ∷ l) = go (step n a) refl (λ m. played-runs m l)
+  where
+    go : (o : Answer Node) → step n a ≡ o → ((m : Node) → Runs step m (take (played m l .accepted) l) (played m l .node)) → Runs step n (take (playsOn n o (λ m. played m l) .accepted) (a ∷ l)) (playsOn n o (λ m. played m l) .node)
+    go (refused k) e f = refl
+    go (done m) e f = rw add-one (m, e, f m)
+
+play-runs : (n : Node) (l : List Action) → Runs step n (take (play n l .accepted) l) (play n l .node)
+unfolding play
+play-runs n l = go (not (sound n)) (ltb 4096 (length l))
+  where
+    go : (x y : Bool) → Runs step n (take (cond x (record { accepted = 0; refusal = 31; node = n }) (cond y (record { accepted = 0; refusal = 32; node = n }) (played n l)) .accepted) l) (cond x (record { accepted = 0; refusal = 31; node = n }) (cond y (record { accepted = 0; refusal = 32; node = n }) (played n l)) .node)
+    go true y = refl
+    go false true = refl
+    go false false = played-runs n l
+
+call-runs : (n : Node) (c : Call) → Runs step n (callSteps n c) (callNode n c)
+unfolding callSteps callNode
+call-runs n (single a) = go (step n a) refl
+  where
+    go : (o : Answer Node) → step n a ≡ o → Runs step n (ifAccepted o a) (nodeBehind n o)
+    go (refused k) e = refl
+    go (done m) e = (m, e, refl)
+call-runs n (schedule l) = play-runs n l
+
+calls-run : (n : Node) (cs : List Call) → Runs step n (accepted n cs) (after n cs)
+unfolding accepted after
+calls-run n [] = refl
+calls-run n (c ∷ cs) = runs-append step n (callNode n c) _ (callSteps n c) _ (call-runs n c) (calls-run (callNode n c) cs)
+
+-- ---- the guarantees
+
+pub order : Order
+order n z s a b h = order-runs step owner Owner Whole Ready laws n _ _ (accepted n a) (accepted n b) (z, s) (calls-run n a) (calls-run n b) (λ i o. h i (o .0) (o .1))
+
+-- the same in document 01's words: equal nodes
+pub order-equal : (n : Node) → Sized n → Sound n → (a b : List Call) → ((i : ℕ) → 1 ≤ i → i ≤ 16 → acceptedBy i n a ≡ acceptedBy i n b) → Equal (after n a) (after n b)
+order-equal n z s a b h = ap view (order n z s a b h)
+
+pub sound-kept : SoundKept
+sound-kept = (step-sound, play-sound)
+
+-- a play stops at the end, or where the next step is refused
+played-stops : (n : Node) (l : List Action) → Stopped (played n l .node) (drop (played n l .accepted) l) (played n l .refusal)
+unfolding played
+played-stops n [] = refl
+played-stops n (a ∷ l) = go (step n a) refl (λ m. played-stops m l)
+  where
+    go : (o : Answer Node) → step n a ≡ o → ((m : Node) → Stopped (played m l .node) (drop (played m l .accepted) l) (played m l .refusal)) → Stopped (playsOn n o (λ m. played m l) .node) (drop (playsOn n o (λ m. played m l) .accepted) (a ∷ l)) (playsOn n o (λ m. played m l) .refusal)
+    go (refused k) e f = e
+    go (done m) e f = rw add-one (f m)
+
+pub play-is-steps : PlayIsSteps
+play-is-steps n l s h = rw (play-played n l s h) (played-runs n l, played-stops n l)
+
+-- ---- refusals exclude each other
+
+no-full : (n : Node) (i : ℕ) (o : Option Sending) → pairHasRoom n i o ≡ false → (b : Option Birth) → numberFree n b ≡ false → NotBoth o b → ⊥
+unfolding pairHasRoom numberFree
+no-full n i none r b f h = false≢true (sym r)
+no-full n i (some x) r none f h = false≢true (sym f)
+no-full n i (some x) r (some b) f h = h
+
+pub exclusive : Exclusive
+exclusive n a s m w k l (undecided p) (undecided q) = cc (p, q)
+exclusive n a s m w k l (undecided p) (full q r) = absurd (let z : _≡_ {A = ℕ} 0 1 = cc (p, q) in omega arith)
+exclusive n a s m w k l (undecided p) (taken q f) = absurd (let z : _≡_ {A = ℕ} 0 1 = cc (p, q) in omega arith)
+exclusive n a s m w k l (full p r) (undecided q) = absurd (let z : _≡_ {A = ℕ} 0 1 = cc (p, q) in omega arith)
+exclusive n a s m w k l (full p r) (full q t) = refl
+exclusive n a s m w k l (full {e = e} p r) (taken {e = g} q f) =
+    let d : g ≡ e = cc (p, q) in
+    absurd (no-full n (owner a) (e .sent) r (e .born) (rw d at f) (decided-keeps n a e (parts-of n s) m w p .apart))
+exclusive n a s m w k l (taken p f) (undecided q) = absurd (let z : _≡_ {A = ℕ} 0 1 = cc (p, q) in omega arith)
+exclusive n a s m w k l (taken {e = e} p f) (full {e = g} q r) =
+    let d : g ≡ e = cc (p, q) in
+    absurd (no-full n (owner a) (e .sent) (rw d at r) (e .born) f (decided-keeps n a e (parts-of n s) m w p .apart))
+exclusive n a s m w k l (taken p f) (taken q g) = refl
+
+-- ---- stages go forward
+
+born-rank : (s : Stage) → isUnborn s ≡ false → 1 ≤ rank s
+born-rank Unborn h = absurd (false≢true (sym h))
+born-rank Live h = omega arith
+born-rank Closing h = omega arith
+born-rank Gone h = omega arith
+
+unborn-rank : (s : Stage) {k : ℕ} → So (isUnborn s) → rank s ≤ k
+unborn-rank Unborn h = omega arith
+unborn-rank Live h = absurd (false≢true h)
+unborn-rank Closing h = absurd (false≢true h)
+unborn-rank Gone h = absurd (false≢true h)
+
+-- the owner's next process, where a decision accepts
+processOf : Answer Effect → Process
+processOf (refused k) = noProcess
+processOf (done e) = e .process
+
+set-forward : (l : List Process) (k i : ℕ) (p : Process) → rank (getD l k noProcess .stage) ≤ rank (p .stage) → rank (getD l i noProcess .stage) ≤ rank (getD (set l k p) i noProcess .stage)
+set-forward [] k i p h = omega arith
+set-forward (x ∷ l) zero zero p h = h
+set-forward (x ∷ l) zero (suc i) p h = omega arith
+set-forward (x ∷ l) (suc k) zero p h = omega arith
+set-forward (x ∷ l) (suc k) (suc i) p h = set-forward l k i p h
+
+-- a closing process stays closing or is gone
+closes-rank : (st : State) (e : Effect) → st .process .stage ≡ Closing → closes st ≡ done e → 2 ≤ rank (e .process .stage)
+unfolding closes gone unlinked processOf
+closes-rank st e c h = go (lowest (linksTo (st .process)) numbers) h
+  where
+    go : (o : Option ℕ) → closesTo st o ≡ done e → 2 ≤ rank (e .process .stage)
+    go none q =
+        let d : gone (st .process) ≡ e .process = ap processOf q in
+        rw (← d) (omega arith)
+    go (some j) q =
+        let d : unlinked (st .process) j ≡ e .process = ap processOf q in
+        rw (← d, c) (omega arith)
+
+-- an owner's stage goes forward
+owner-forward : (n : Node) (a : Action) (e : Effect) → Keeps (behavioursOf n) (owner a) e → So (ownerBorn n a) → decide n a ≡ done e → rank (process n (owner a) .stage) ≤ rank (e .process .stage)
+unfolding decide ownerBorn runs arrives processOf
+owner-forward n (run i) e k w h = go (process n i .stage) refl h
+  where
+    go : (s : Stage) → process n i .stage ≡ s → runsIn s (code n (process n i .behaviour .0)) i (state n i) ≡ done e → rank s ≤ rank (e .process .stage)
+    go Unborn q h = omega arith
+    go Live q h = born-rank (e .process .stage) (k .born)
+    go Closing q h = closes-rank (state n i) e q h
+    go Gone q h = absurd (let z : _≡_ {A = ℕ} 0 1 = cc h in omega arith)
+owner-forward n (arrive i j) e k w h = go (process n i .stage) refl h
+  where
+    go : (s : Stage) → process n i .stage ≡ s → arrivesIn s i j (state n i) (incoming n j i) ≡ done e → rank s ≤ rank (e .process .stage)
+    go Unborn q h = omega arith
+    go Live q h = born-rank (e .process .stage) (k .born)
+    go Closing q h = let d : process n i ≡ e .process = ap processOf h in rw (← d, q) (omega arith)
+    go Gone q h = let d : process n i ≡ e .process = ap processOf h in rw (← d, q) (omega arith)
+
+birth-forward : (n : Node) (a : Action) (p : Process) (o : Option Birth) → So (numberFree n o) → So (ownerBorn n a) → (i : ℕ) → rank (getD (set (n .processes) (owner a - 1) p) i noProcess .stage) ≤ rank (getD (withBirth noProcess (λ b p. b .process) (set (n .processes) (owner a - 1) p) o) i noProcess .stage)
+unfolding ownerBorn numberFree at Off
+birth-forward n a p none f w i = omega arith
+birth-forward n a p (some b) f w i =
+    let off : owner a - 1 ≢ b .number - 1 = free-off n (some b) (owner a - 1) f w in
+    let same = getD-set-other (n .processes) (owner a - 1) (b .number - 1) p noProcess (λ q. off (sym q)) in
+    set-forward (set (n .processes) (owner a - 1) p) (b .number - 1) i (b .process) (rw same (unborn-rank (process n (b .number) .stage) f))
+
+pub forward : Forward
+unfolding commit
+forward n m a h i =
+    let w = step-goes n a m h in
+    let g = w .1 in
+    let e = g .effect in
+    let k = act-keeps n a e (parts-of n (w .0)) (g .act) in
+    let x = set-forward (n .processes) (owner a - 1) (i - 1) (e .process) (owner-forward n a e k (g .act .awake) (g .act .decided)) in
+    let y = birth-forward n a (e .process) (e .born) (g .free) (g .act .awake) (i - 1) in
+    rw (g .to) (omega arith)
