@@ -63,3 +63,30 @@ module _ {A : Type 0} where
   map-drop f zero l = refl
   map-drop f (suc n) [] = refl
   map-drop f (suc n) (x ∷ l) = map-drop f n l
+
+  -- an element leaves an array: each behind it moves up by one, and the default is stored behind
+  pub leave-more : (d : A) (k : ℕ) (l : List A) → k + 1 < length l → leave d (k + 1) (set l k (getD l (k + 1) d)) ≡ leave d k l
+  leave-more d k l h = rw add-one (go k l (rw add-one at h))
+    where
+      go : (k : ℕ) (l : List A) → suc k < length l → leave d (suc k) (set l k (getD l (suc k) d)) ≡ leave d k l
+      go k [] h = absurd (not-suc-le-zero h)
+      go zero (x ∷ []) h = absurd (not-suc-le-zero (le-of-suc-le-suc h))
+      go zero (x ∷ y ∷ l) h = refl
+      go (suc k) (x ∷ l) h = ap (λ (r : List A). x ∷ r) (go k l (le-of-suc-le-suc h))
+
+  pub leave-last : (d : A) (k : ℕ) (l : List A) → k + 1 ≡ length l → set l k d ≡ leave d k l
+  leave-last d k [] h = refl
+  leave-last d zero (x ∷ []) h = refl
+  leave-last d zero (x ∷ y ∷ l) h = absurd (omega arith)
+  leave-last d (suc k) (x ∷ l) h = ap (λ (r : List A). x ∷ r) (leave-last d k l (omega arith))
+
+  pub leave-out : (d : A) (k : ℕ) (l : List A) → length l ≤ k → leave d k l ≡ l
+  leave-out d k [] h = refl
+  leave-out d zero (x ∷ l) h = absurd (omega arith)
+  leave-out d (suc k) (x ∷ l) h = ap (λ (r : List A). x ∷ r) (leave-out d k l (le-of-suc-le-suc h))
+
+  -- within a list, what is read past its end does not matter
+  pub getD-in : (l : List A) (i : ℕ) (d e : A) → i < length l → getD l i d ≡ getD l i e
+  getD-in [] i d e h = absurd (not-suc-le-zero h)
+  getD-in (x ∷ l) zero d e h = refl
+  getD-in (x ∷ l) (suc i) d e h = getD-in l i d e (le-of-suc-le-suc h)

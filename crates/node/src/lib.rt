@@ -1,10 +1,11 @@
-// The types of a node, the constructors of fresh processes and of the blank node, and the tables of ops.
+// The types of a node, the constructors of fresh processes and of the blank node, what a step makes of a record, and the tables of ops.
 ghost use mathlib.Core.Path.{_≡_};
-ghost use lib.ListN.{getD};
+ghost use Prim.Native.Nat.{_+_, _-_, min};
+ghost use lib.ListN.{getD, set};
 ghost use Rattle.node.specs.Ops.{operandCounts, operandKind, stopOp};
-ghost use Rattle.node.specs.Processes.{unborn, fresh};
-ghost use Rattle.node.specs.Mailboxes.{emptyMailbox};
-ghost use Rattle.node.specs.Rows.{emptyRow};
+ghost use Rattle.node.specs.Processes.{unborn, fresh, register, withRegister, moved, advanced, trapped, linksTo, linked, unlinked, ended, gone, withRegisters, withLinks, withStage};
+ghost use Rattle.node.specs.Mailboxes.{emptyMailbox, joined, without, emptied};
+ghost use Rattle.node.specs.Rows.{emptyRow, oldest, pushed, popped};
 ghost use Rattle.node.specs.Nodes.{blankNode};
 
 // A process number (process identifier), 1 to 16.
@@ -219,6 +220,36 @@ pub fn operand_kind(op: u8, k: u8) -> u8
     0
 }
 
+// One more, held at the top of a byte, so that no count or place wraps.
+fn risen(n: u8) -> u8
+    ensures { λ r. ⌜ r ≡ min (n + 1) 255 ⌝ }
+{
+    if n < 255 {
+        return n + 1;
+    }
+    n
+}
+
+// One less, held at 0.
+fn fallen(n: u8) -> u8
+    ensures { λ r. ⌜ r ≡ n - 1 ⌝ }
+{
+    if 0 < n {
+        return n - 1;
+    }
+    0
+}
+
+impl ProcessNumber {
+    // Where the process stands in an array of all; number 0 is read as 1.
+    pub fn index(self) -> usize
+        ensures { λ r. ⌜ r ≡ self .0 - 1 ⌝ }
+    {
+        let n = self.0;
+        fallen(n) as usize
+    }
+}
+
 impl Op {
     // The op `stop,0`.
     pub fn stop() -> Op
@@ -272,9 +303,195 @@ impl Process {
             reason: Value::ZERO,
         }
     }
+
+    // The content of register r; a number above 2 is read as 3.
+    pub fn register(self, r: u8) -> Value
+        ensures { λ v. ⌜ v ≡ register self r ⌝ }
+    {
+        match r {
+            0 => self.r0,
+            1 => self.r1,
+            2 => self.r2,
+            _ => self.r3,
+        }
+    }
+
+    // All four registers anew.
+    fn with_registers(self, a: Value, b: Value, c: Value, d: Value) -> Process
+        ensures { λ p. ⌜ p ≡ withRegisters self a b c d ⌝ }
+    {
+        let stage = self.stage;
+        let behaviour = self.behaviour;
+        let links = self.links;
+        let reason = self.reason;
+        Process {
+            stage: stage,
+            behaviour: behaviour,
+            place: self.place,
+            r0: a,
+            r1: b,
+            r2: c,
+            r3: d,
+            trap: self.trap,
+            links: links,
+            reason: reason,
+        }
+    }
+
+    pub fn with_register(self, r: u8, v: Value) -> Process
+        ensures { λ p. ⌜ p ≡ withRegister self r v ⌝ }
+    {
+        let a = self.r0;
+        let b = self.r1;
+        let c = self.r2;
+        let d = self.r3;
+        match r {
+            0 => self.with_registers(v, b, c, d),
+            1 => self.with_registers(a, v, c, d),
+            2 => self.with_registers(a, b, v, d),
+            _ => self.with_registers(a, b, c, v),
+        }
+    }
+
+    pub fn moved(mut self, t: u8) -> Process
+        ensures { λ p. ⌜ p ≡ moved self t ⌝ }
+    {
+        self.place = t;
+        self
+    }
+
+    pub fn advanced(mut self) -> Process
+        ensures { λ p. ⌜ p ≡ advanced self ⌝ }
+    {
+        let place = self.place;
+        self.place = risen(place);
+        self
+    }
+
+    pub fn trapped(mut self, f: bool) -> Process
+        ensures { λ p. ⌜ p ≡ trapped self f ⌝ }
+    {
+        self.trap = f;
+        self
+    }
+
+    // Whether j is a link.
+    pub fn links_to(self, j: ProcessNumber) -> bool
+        ensures { λ r. ⌜ r ≡ linksTo self (j .0) ⌝ }
+    {
+        let k = j.index();
+        if k < 16 {
+            return self.links[k];
+        }
+        false
+    }
+
+    pub fn linked(self, j: ProcessNumber) -> Process
+        ensures { λ p. ⌜ p ≡ linked self (j .0) ⌝ }
+    {
+        self.with_link(j, true)
+    }
+
+    pub fn unlinked(self, j: ProcessNumber) -> Process
+        ensures { λ p. ⌜ p ≡ unlinked self (j .0) ⌝ }
+    {
+        self.with_link(j, false)
+    }
+
+    // Whether j is a link becomes b.
+    fn with_link(mut self, j: ProcessNumber, b: bool) -> Process
+        ensures { λ p. ⌜ p ≡ withLinks self (set (self .links) (j .0 - 1) b) ⌝ }
+    {
+        let k = j.index();
+        if k < 16 {
+            self.links[k] = b;
+            return self;
+        }
+        self
+    }
+
+    // The process ends with reason v: it is closing, and its links are unchanged.
+    pub fn ended(self, v: Value) -> Process
+        ensures { λ p. ⌜ p ≡ ended self v ⌝ }
+    {
+        self.with_stage(Stage::Closing, v)
+    }
+
+    pub fn gone(self) -> Process
+        ensures { λ p. ⌜ p ≡ gone self ⌝ }
+    {
+        let reason = self.reason;
+        self.with_stage(Stage::Gone, reason)
+    }
+
+    fn with_stage(self, s: Stage, v: Value) -> Process
+        ensures { λ p. ⌜ p ≡ withStage self s v ⌝ }
+    {
+        let behaviour = self.behaviour;
+        let a = self.r0;
+        let b = self.r1;
+        let c = self.r2;
+        let d = self.r3;
+        let links = self.links;
+        Process {
+            stage: s,
+            behaviour: behaviour,
+            place: self.place,
+            r0: a,
+            r1: b,
+            r2: c,
+            r3: d,
+            trap: self.trap,
+            links: links,
+            reason: v,
+        }
+    }
 }
 
 impl Mailbox {
+    // A message joins, behind the others.
+    pub fn joined(mut self, m: Message) -> Mailbox
+        ensures { λ r. ⌜ r ≡ joined self m ⌝ }
+    {
+        let n = self.count;
+        self.count = risen(n);
+        if n < 16 {
+            let k = n as usize;
+            self.slots[k] = Slot { message: m };
+            return self;
+        }
+        self
+    }
+
+    // Message k leaves: those behind it move up by one.
+    pub fn without(mut self, k: u8) -> Mailbox
+        ensures { λ r. ⌜ r ≡ without self k ⌝ }
+    {
+        let n = self.count;
+        self.count = fallen(n);
+        if 16 <= k {
+            return self;
+        }
+        let mut slots = self.slots;
+        let mut i = k as usize;
+        while i < 15 {
+            slots[i] = slots[i + 1];
+            i += 1;
+        }
+        slots[15] = Slot {
+            message: Message::Plain(Value::ZERO),
+        };
+        self.slots = slots;
+        self
+    }
+
+    pub fn emptied(mut self) -> Mailbox
+        ensures { λ r. ⌜ r ≡ emptied self ⌝ }
+    {
+        self.count = 0;
+        self
+    }
+
     pub fn empty() -> Mailbox
         ensures { λ r. ⌜ r ≡ emptyMailbox ⌝ }
     {
@@ -298,6 +515,45 @@ impl Row {
         Row {
             cells: [blank; 4],
             count: 0,
+        }
+    }
+
+    // The signal that was sent first.
+    pub fn oldest(self) -> Signal
+        ensures { λ r. ⌜ r ≡ oldest self ⌝ }
+    {
+        let first = self.cells[0];
+        first.signal
+    }
+
+    // A signal is put in flight, behind the others.
+    pub fn pushed(mut self, x: Signal) -> Row
+        ensures { λ r. ⌜ r ≡ pushed self x ⌝ }
+    {
+        let n = self.count;
+        self.count = risen(n);
+        if n < 4 {
+            let k = n as usize;
+            self.cells[k] = Cell { signal: x };
+            return self;
+        }
+        self
+    }
+
+    // The oldest signal leaves: those behind it move up by one.
+    pub fn popped(self) -> Row
+        ensures { λ r. ⌜ r ≡ popped self ⌝ }
+    {
+        let n = self.count;
+        let a = self.cells[1];
+        let b = self.cells[2];
+        let c = self.cells[3];
+        let blank = Cell {
+            signal: Signal::Msg(Value::ZERO),
+        };
+        Row {
+            cells: [a, b, c, blank],
+            count: fallen(n),
         }
     }
 }

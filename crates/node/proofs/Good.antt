@@ -1,0 +1,53 @@
+-- What a record tells by its type: how long its arrays are, and that its counts and places are bytes. Assumes nothing.
+use mathlib.Core.List.{List}
+use mathlib.Core.Path.{_≡_, sym, _∙_}
+use Prim.Native.Nat.{ℕ, _<_}
+use denote.Shadow.{shadow}
+use denote.Struct.Declared.{row}
+use lib.ListN.{length, length-map}
+use mir.Val.{Val}
+use Rattle.node.specs.declared.Mailbox.{Mailbox}
+use Rattle.node.specs.declared.Node.{Node}
+use Rattle.node.specs.declared.Process.{Process}
+use Rattle.node.specs.declared.Row.{Row}
+use Rattle.node.proofs.Mailbox.{the-type as mailbox-type}
+use Rattle.node.proofs.Node.{the-type as node-type}
+use Rattle.node.proofs.Process.{the-type as process-type}
+use Rattle.node.proofs.Row.{the-type as row-type}
+
+pub record SizedProcess (p : Process) : Type 0 where
+  pub place : p .place < 256
+  pub links : length (p .links) ≡ 16
+
+pub sized-process : (p : Process) {vs : List Val} → shadow (row process-type .own p vs) → SizedProcess p
+sized-process p g = record { place = g .1 .1 .1 .1 .0 .1; links = sym (length-map (p .links) _) ∙ g .1 .1 .1 .1 .1 .1 .1 .1 .1 .1 .0 .1 .0 .1 }
+
+pub record SizedMailbox (m : Mailbox) : Type 0 where
+  pub slots : length (m .slots) ≡ 16
+  pub count : m .count < 256
+
+pub sized-mailbox : (m : Mailbox) {vs : List Val} → shadow (row mailbox-type .own m vs) → SizedMailbox m
+sized-mailbox m g = record { slots = sym (length-map (m .slots) _) ∙ g .1 .1 .0 .1 .0 .1; count = g .1 .1 .1 .0 .1 }
+
+pub record SizedRow (r : Row) : Type 0 where
+  pub cells : length (r .cells) ≡ 4
+  pub count : r .count < 256
+
+pub sized-row : (r : Row) {vs : List Val} → shadow (row row-type .own r vs) → SizedRow r
+sized-row r g = record { cells = sym (length-map (r .cells) _) ∙ g .1 .1 .0 .1 .0 .1; count = g .1 .1 .1 .0 .1 }
+
+pub record SizedNode (n : Node) : Type 0 where
+  pub lens : length (n .lens) ≡ 8
+  pub ops : length (n .ops) ≡ 256
+  pub processes : length (n .processes) ≡ 16
+  pub mail : length (n .mail) ≡ 16
+  pub flight : length (n .flight) ≡ 256
+
+pub sized-node : (n : Node) {vs : List Val} → shadow (row node-type .own n vs) → SizedNode n
+sized-node n g = record {
+  lens = sym (length-map (n .lens) _) ∙ g .1 .1 .1 .0 .1 .0 .1;
+  ops = sym (length-map (n .ops) _) ∙ g .1 .1 .1 .1 .0 .1 .0 .1;
+  processes = sym (length-map (n .processes) _) ∙ g .1 .1 .1 .1 .1 .0 .1 .0 .1;
+  mail = sym (length-map (n .mail) _) ∙ g .1 .1 .1 .1 .1 .1 .0 .1 .0 .1;
+  flight = sym (length-map (n .flight) _) ∙ g .1 .1 .1 .1 .1 .1 .1 .0 .1 .0 .1;
+}

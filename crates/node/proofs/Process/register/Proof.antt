@@ -1,0 +1,25 @@
+-- `Process::register` gives `register`: a number above 2 is none of 0, 1 and 2. Assumes nothing.
+use Rattle.node.specs.Processes.{register}
+use borrow.Author.Tests.{ne-eqb}
+use native.Mathlib.Omega.{arith}
+use Rattle.node.proofs.Process.register.Statement.{statement}
+use Rattle.node.proofs.Process.register.Tie as tie
+
+returns : tie.Need-returns
+unfolding register
+returns c = rw (c .match .keys1)
+
+returns-2 : tie.Need-returns-2
+unfolding register
+returns-2 c = rw (c .match .keys2)
+
+returns-3 : tie.Need-returns-3
+unfolding register
+returns-3 c = rw (c .match .keys3)
+
+returns-4 : tie.Need-returns-4
+unfolding register
+returns-4 c = let r = c .before .args .r in let h = c .match .rest in rw (ne-eqb r 0 (λ q. omega (arith, h, q)), ne-eqb r 1 (λ q. omega (arith, h, q)), ne-eqb r 2 (λ q. omega (arith, h, q)))
+
+pub register-spec : {M : Type 1} → statement M
+register-spec = tie.close (tie.spec returns returns-2 returns-3 returns-4)
