@@ -6,7 +6,7 @@ ghost use Rattle.node.specs.Ops.{operandCounts, operandKind, stopOp};
 ghost use Rattle.node.specs.Processes.{unborn, fresh, register, withRegister, moved, advanced, trapped, linksTo, linked, unlinked, ended, gone, withRegisters, withLinks, withStage};
 ghost use Rattle.node.specs.Mailboxes.{emptyMailbox, joined, without, emptied};
 ghost use Rattle.node.specs.Rows.{emptyRow, oldest, pushed, popped};
-ghost use Rattle.node.specs.Nodes.{blankNode};
+ghost use Rattle.node.specs.Nodes.{blankNode, noOp};
 
 // A process number (process identifier), 1 to 16.
 pub struct ProcessNumber(pub u8);
@@ -251,6 +251,22 @@ impl ProcessNumber {
 }
 
 impl Op {
+    // What is read past the ops: all zero.
+    pub fn blank() -> Op
+        ensures { λ r. ⌜ r ≡ noOp ⌝ }
+    {
+        Op {
+            number: 0,
+            r: 0,
+            s: 0,
+            target: 0,
+            small: 0,
+            value: Value::ZERO,
+            process: ProcessNumber(0),
+            behaviour: BehaviourNumber(0),
+        }
+    }
+
     // The op `stop,0`.
     pub fn stop() -> Op
         ensures { λ r. ⌜ r ≡ stopOp ⌝ }

@@ -1,0 +1,38 @@
+-- `keep` puts a value into r, and of a note the sender into r, then the reason into s. Assumes nothing.
+use mathlib.Core.Path.{_∙_}
+use borrow.Author.Needs.{needs}
+use Rattle.receive.proofs.keep.Statement.{statement}
+use Rattle.receive.proofs.keep.Tie as tie
+
+enum-known-m : tie.Need-enum-known-m
+enum-known-m c = search needs
+
+with-register-requires : tie.Need-with-register-requires
+with-register-requires c κs = search needs
+
+enum-known-m-2 : tie.Need-enum-known-m-2
+enum-known-m-2 c = search needs
+
+with-register-requires-2 : tie.Need-with-register-requires-2
+with-register-requires-2 c κs = search needs
+
+with-register-requires-3 : tie.Need-with-register-requires-3
+with-register-requires-3 c κs = search needs
+
+returns : tie.Need-returns
+returns c = rw (c .before .before .m .given .1) (c .with-register .ensures)
+
+returns-2 : tie.Need-returns-2
+returns-2 c = rw (c .before .before .before .m2 .given .1) (c .with-register3 .ensures ∙ rw (c .before .with-register2 .ensures))
+
+pub keep-spec : {M : Type 1} → statement M
+keep-spec =
+    tie.close
+    (tie.spec
+    enum-known-m
+    with-register-requires
+    enum-known-m-2
+    with-register-requires-2
+    with-register-requires-3
+    returns
+    returns-2)

@@ -1,0 +1,124 @@
+-- `search` is the first fit: the loops' invariants say that what is left of the messages, and of the clauses for one message, gives
+-- the answer. Assumes nothing.
+use borrow.Author.Needs.{needs}
+use mathlib.Core.Path.{_≡_, refl, sym, _∙_}
+use native.Mathlib.Omega.{arith}
+use Prim.Native.Nat.{_≤_, _<_, _-_, _+_, min}
+use lib.ListN.{length, take, drop, getD}
+use Rattle.node.specs.Mailboxes.{messages, noMessage}
+use Rattle.receive.proofs.Laws.{message-turn, message-end, clause-hit, clause-miss, clause-end}
+use Rattle.receive.proofs.search.Statement.{statement}
+use Rattle.receive.proofs.search.Tie as tie
+use Rattle.receive.specs.declared.Found.the-variants.{Nothing}
+use Rattle.rules.specs.Receive.{search as searched, firstClause}
+
+abbrev Inv-loop : tie.InvT-loop
+Inv-loop n mail clauses limit count found₀ i m k₀ found k =
+    (length clauses ≡ 8) × (limit ≡ min n 8) × (count ≡ mail .count) × (found ≡ Nothing) × (i < count) × (k ≤ limit) × (m ≡ getD (mail .slots) i noMessage .message)
+    × (searched (take n clauses) 0 (messages mail) ≡ firstClause (drop k (take n clauses)) i m (searched (take n clauses) (i + 1) (drop (i + 1) (messages mail))))
+
+abbrev μ-loop : tie.MeasureT-loop
+μ-loop n mail clauses limit count found₀ i m k₀ found k = limit - k
+
+abbrev Inv-messages : tie.InvT-messages
+Inv-messages n mail clauses limit count found₀ i₀ found i =
+    (length clauses ≡ 8) × (limit ≡ min n 8) × (count ≡ mail .count) × (found ≡ Nothing) × (i ≤ count) × (searched (take n clauses) 0 (messages mail) ≡ searched (take n clauses) i (drop i (messages mail)))
+
+abbrev μ-messages : tie.MeasureT-messages
+μ-messages n mail clauses limit count found₀ i₀ found i = count - i
+
+clause-limit-requires : tie.Need-clause-limit-requires Inv-loop μ-loop Inv-messages μ-messages
+clause-limit-requires c κs = search needs
+
+messages-holds : tie.Need-messages-holds Inv-loop μ-loop Inv-messages μ-messages
+messages-holds c =
+    let its-good = c .before .good in
+    let its-clause-limit = c .clause-limit in
+    (its-good .0 .1 .0 .1, its-clause-limit .ensures, refl, refl, omega arith, refl)
+
+message-at-requires : tie.Need-message-at-requires Inv-loop μ-loop Inv-messages μ-messages
+message-at-requires c κs = search needs
+
+loop-holds : tie.Need-loop-holds Inv-loop μ-loop Inv-messages μ-messages
+loop-holds c =
+    let its-messages = c .before .before .messages in
+    let its-message-at = c .message-at in
+    let its-args = c .before .before .before .before .args in
+    let v = its-messages .inv in (v .0, v .1, v .2, v .3, omega arith, omega arith, its-message-at .ensures, v .5 ∙ message-turn (its-args .mail) (take (its-args .n) (its-args .t1)) (its-messages .i) (omega arith) ∙ rw (its-message-at .ensures))
+
+cast-at : tie.Need-cast-at Inv-loop μ-loop Inv-messages μ-messages
+cast-at c = search needs
+
+mul-c : tie.Need-mul-c Inv-loop μ-loop Inv-messages μ-messages
+mul-c c = search needs
+
+array-copy-out-c : tie.Need-array-copy-out-c Inv-loop μ-loop Inv-messages μ-messages
+array-copy-out-c c = omega arith
+
+fits-requires : tie.Need-fits-requires Inv-loop μ-loop Inv-messages μ-messages
+fits-requires c κs = search needs
+
+add-k : tie.Need-add-k Inv-loop μ-loop Inv-messages μ-messages
+add-k c = omega arith
+
+loop-less : tie.Need-loop-less Inv-loop μ-loop Inv-messages μ-messages
+loop-less c = omega arith
+
+loop-again : tie.Need-loop-again Inv-loop μ-loop Inv-messages μ-messages
+loop-again c =
+    let its-loop = c .before .before .before .before .loop in
+    let its-args = c .before .before .before .before .before .before .before .before .before .args in
+    let its-fits2 = c .before .fits2 in
+    let its-if1 = c .if1 in
+    let v = its-loop .inv in (v .0, v .1, v .2, v .3, v .4, omega arith, v .6, v .7 ∙ clause-miss (its-args .t1) (v .0) (its-args .n) _ _ _ (its-loop .k) (omega arith) (sym (its-fits2 .ensures) ∙ its-if1 .left))
+
+add-i : tie.Need-add-i Inv-loop μ-loop Inv-messages μ-messages
+add-i c = omega arith
+
+messages-less : tie.Need-messages-less Inv-loop μ-loop Inv-messages μ-messages
+messages-less c = omega arith
+
+messages-again : tie.Need-messages-again Inv-loop μ-loop Inv-messages μ-messages
+messages-again c =
+    let its-loop = c .before .loop in
+    let its-args = c .before .before .before .before .before .before .args in
+    let v = its-loop .inv in (v .0, v .1, v .2, v .3, omega arith, v .7 ∙ clause-end (its-args .t1) (v .0) (its-args .n) _ _ _ (its-loop .k) (omega arith))
+
+returns : tie.Need-returns Inv-loop μ-loop Inv-messages μ-messages
+returns c =
+    let its-messages = c .before .messages in
+    let its-args = c .before .before .before .args in
+    let v = its-messages .inv in rw (v .3) (sym (v .5 ∙ message-end (its-args .mail) (take (its-args .n) (its-args .t1)) (its-messages .i) (omega arith)))
+
+returns-2 : tie.Need-returns-2 Inv-loop μ-loop Inv-messages μ-messages
+returns-2 c =
+    let its-loop = c .before .before .before .before .loop in
+    let its-args = c .before .before .before .before .before .before .before .before .before .args in
+    let its-fits2 = c .before .fits2 in
+    let its-if1 = c .if1 in
+    let v = its-loop .inv in sym (v .7 ∙ clause-hit (its-args .t1) (v .0) (its-args .n) _ _ _ (its-loop .k) (omega arith) (sym (its-fits2 .ensures) ∙ its-if1 .taken) ∙ rw (v .6))
+
+pub search-spec : {M : Type 1} → statement M
+search-spec =
+    tie.close
+    (tie.spec
+    Inv-loop
+    μ-loop
+    Inv-messages
+    μ-messages
+    clause-limit-requires
+    messages-holds
+    message-at-requires
+    loop-holds
+    cast-at
+    mul-c
+    array-copy-out-c
+    fits-requires
+    add-k
+    loop-less
+    loop-again
+    add-i
+    messages-less
+    messages-again
+    returns
+    returns-2)

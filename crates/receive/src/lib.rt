@@ -1,0 +1,174 @@
+// Receiving: the search of a mailbox for the first message that a clause takes, and what a recv does with it.
+ghost use mathlib.Core.Path.{_≡_};
+ghost use lib.ListN.{take, getD};
+ghost use Prim.Native.Nat.{min};
+ghost use Rattle.node.specs.Mailboxes.{messages, noMessage};
+ghost use Rattle.node.specs.Nodes.{noOp};
+ghost use Rattle.rules.specs.Values.{sameValue};
+ghost use Rattle.rules.specs.Receive.{fits, search, kept, receivesFit};
+ghost use Rattle.receive.specs.Answers.{fitOf, answerOf, stateOf};
+use node::Mailbox;
+use node::Message;
+use node::Op;
+use node::Process;
+use node::ProcessNumber;
+use node::Value;
+
+// What a search finds: the index of the message and that of the clause that takes it, or nothing.
+pub enum Found {
+    Nothing,
+    Fit(u8, u8),
+}
+
+// A recv's refusal, 25 or 0, and the process and mailbox behind it.
+pub struct Received {
+    pub refusal: u8,
+    pub process: Process,
+    pub mail: Mailbox,
+}
+
+// Equal in kind and number.
+pub fn same_value(a: Value, b: Value) -> bool
+    ensures { λ r. ⌜ r ≡ sameValue a b ⌝ }
+{
+    match a {
+        Value::Int(x) => match b {
+            Value::Int(y) => x == y,
+            Value::Atom(_) => false,
+            Value::Pid(_) => false,
+        },
+        Value::Atom(x) => match b {
+            Value::Int(_) => false,
+            Value::Atom(y) => x == y,
+            Value::Pid(_) => false,
+        },
+        Value::Pid(x) => match b {
+            Value::Int(_) => false,
+            Value::Atom(_) => false,
+            Value::Pid(y) => x.0 == y.0,
+        },
+    }
+}
+
+// Clause c takes message m.
+pub fn fits(c: Op, m: Message) -> bool
+    ensures { λ r. ⌜ r ≡ fits c m ⌝ }
+{
+    let kind = c.small;
+    if kind == 0 {
+        return true;
+    }
+    match m {
+        Message::Note(_, _) => kind == 4,
+        Message::Plain(v) => {
+            if 4 < kind {
+                let w = c.value;
+                return same_value(v, w);
+            }
+            match v {
+                Value::Int(_) => kind == 1,
+                Value::Atom(_) => kind == 2,
+                Value::Pid(_) => kind == 3,
+            }
+        }
+    }
+}
+
+// Message i of a mailbox; what is past the slots is blank.
+fn message_at(mail: Mailbox, i: u8) -> Message
+    ensures { λ r. ⌜ r ≡ getD (mail .slots) i noMessage .message ⌝ }
+{
+    if i < 16 {
+        let slots = mail.slots;
+        let at = i as usize;
+        let slot = slots[at];
+        return slot.message;
+    }
+    Message::Plain(Value::ZERO)
+}
+
+// A recv has at most 8 clauses.
+fn clause_limit(n: u8) -> u8
+    ensures { λ r. ⌜ r ≡ min n 8 ⌝ }
+{
+    if n < 8 {
+        return n;
+    }
+    8
+}
+
+// The first message, in mailbox order, that one of the first n clauses takes, and for it the first such clause.
+pub fn search(clauses: [Op; 8], n: u8, mail: Mailbox) -> Found
+    ensures { λ r. ⌜ fitOf clauses mail r ≡ search (take n clauses) 0 (messages mail) ⌝ }
+{
+    let limit = clause_limit(n);
+    let count = mail.count;
+    let mut found = Found::Nothing;
+    let mut i: u8 = 0;
+    'messages: while i < count {
+        let m = message_at(mail, i);
+        let mut k: u8 = 0;
+        while k < limit {
+            let at = k as usize;
+            let c = clauses[at];
+            if fits(c, m) {
+                found = Found::Fit(i, k);
+                break 'messages;
+            }
+            k += 1;
+        }
+        i += 1;
+    }
+    found
+}
+
+// Process p with message m in the registers that clause c names.
+fn keep(p: Process, c: Op, m: Message) -> Process
+    ensures { λ r. ⌜ r ≡ kept p c m ⌝ }
+{
+    match m {
+        Message::Plain(v) => p.with_register(c.r, v),
+        Message::Note(j, v) => p.with_register(c.r, Value::Pid(j)).with_register(c.s, v),
+    }
+}
+
+// What a recv with the first n of the clauses does.
+pub fn receive(p: Process, mail: Mailbox, clauses: [Op; 8], n: u8) -> Received
+    ensures { λ r. ⌜ answerOf r ≡ receivesFit (stateOf p mail) (search (take n clauses) 0 (messages mail)) ⌝ }
+{
+    let found = search(clauses, n, mail);
+    match found {
+        Found::Nothing => Received {
+            refusal: 25,
+            process: p,
+            mail: mail,
+        },
+        Found::Fit(i, k) => taken(p, mail, clauses, i, k),
+    }
+}
+
+// Message i leaves by clause k.
+fn taken(p: Process, mail: Mailbox, clauses: [Op; 8], i: u8, k: u8) -> Received
+    ensures { λ r. ⌜ answerOf r ≡ receivesFit (stateOf p mail) (fitOf clauses mail (Found.Fit i k)) ⌝ }
+{
+    let m = message_at(mail, i);
+    let c = clause_at(clauses, k);
+    let next = keep(p, c, m).moved(c.target);
+    let rest = mail.without(i);
+    Received {
+        refusal: 0,
+        process: next,
+        mail: rest,
+    }
+}
+
+// Clause k; what is past the clauses is blank.
+fn clause_at(clauses: [Op; 8], k: u8) -> Op
+    ensures { λ r. ⌜ r ≡ getD clauses k noOp ⌝ }
+{
+    if k < 8 {
+        let at = k as usize;
+        return clauses[at];
+    }
+    Op::blank()
+}
