@@ -1,0 +1,35 @@
+-- Laws of the digits of a number and of the text of an integer. Assumes nothing.
+use mathlib.Core.Bool.{Bool, true, false}
+use mathlib.Core.List.{List, [], _∷_, _++_}
+use mathlib.Core.Path.{_≡_, refl, ap}
+use Prim.Native.Nat.{ℕ, zero, suc, _+_, _/_, _%_, _≤_, _<_}
+use native.Mathlib.Omega.{arith}
+use borrow.Author.Tests.{lt-ltb, le-ltb, ltb-false}
+use lib.Dec.{ltb}
+use Rattle.text.specs.Writing.{digitsIn, digits}
+
+-- a bound that is enough is as good as another
+stable : (f g n : ℕ) → n ≤ f → n ≤ g → digitsIn f (ltb n 10) n ≡ digitsIn g (ltb n 10) n
+unfolding digitsIn
+stable zero zero n h k = refl
+stable zero (suc g) n h k = rw (lt-ltb n 10 (omega arith))
+stable (suc f) zero n h k = rw (lt-ltb n 10 (omega arith))
+stable (suc f) (suc g) n h k = by-size (ltb n 10) refl (λ l. stable f g (n / 10) (omega arith) (omega arith))
+  where
+    by-size : (t : Bool) → ltb n 10 ≡ t
+        → (10 ≤ n → digitsIn f (ltb (n / 10) 10) (n / 10) ≡ digitsIn g (ltb (n / 10) 10) (n / 10))
+        → digitsIn (suc f) t n ≡ digitsIn (suc g) t n
+    by-size true e ih = refl
+    by-size false e ih = ap (λ (l : List ℕ). l ++ ((48 + n % 10) ∷ [])) (ih (ltb-false n 10 e))
+
+pub digits-one : (n : ℕ) → n < 10 → digits n ≡ (48 + n) ∷ []
+unfolding digits digitsIn
+digits-one zero h = refl
+digits-one (suc n) h = rw (lt-ltb (suc n) 10 h)
+
+pub digits-more : (n : ℕ) → 10 ≤ n → digits n ≡ digits (n / 10) ++ ((48 + n % 10) ∷ [])
+unfolding digits digitsIn
+digits-more zero h = let no : ⊥ = omega arith in absurd no
+digits-more (suc n) h =
+    rw (le-ltb (suc n) 10 h)
+    (ap (λ (l : List ℕ). l ++ ((48 + suc n % 10) ∷ [])) (stable n (suc n / 10) (suc n / 10) (omega arith) (omega arith)))

@@ -1,0 +1,81 @@
+-- Worked examples of document 01's number forms, ranges and texts; each is computed. Assumes nothing.
+use mathlib.Core.Bool.{true, false}
+use mathlib.Core.List.{List, [], _∷_, map}
+use mathlib.Core.Path.{_≡_, refl}
+use Prim.Native.Nat.{ℕ}
+use lib.IntN.{negsuc}
+use Rattle.node.specs.declared.Value.the-variants.{Int, Atom}
+use Rattle.text.specs.declared.Number.the-variants as number
+use Rattle.text.specs.Numbers.{malformed, outOfRange, isDigit, unsignedForm, negative, unsigned, numberForm, decimal, numberValue, ceiling, numberOf, rangedOf}
+use Rattle.text.specs.Parts.{split, inFront, lineThen, lastApart, linesOf, fieldsOf, equal, startsWith}
+use Rattle.text.specs.Values.{noValue, accepted, plusOf, minusOf, intOf, byLetter, valueOf, numberText, valueText}
+use Rattle.text.specs.Writing.{digitsIn, digits, intText}
+
+-- the empty text, 01, +1, -0 and - are no numbers; 0, 10 and -7 are
+forms : map numberForm (
+    []
+    ∷ (48 ∷ 49 ∷ [])  -- 01
+    ∷ (43 ∷ 49 ∷ [])  -- +1
+    ∷ (45 ∷ 48 ∷ [])  -- -0
+    ∷ (45 ∷ [])  -- -
+    ∷ (48 ∷ [])  -- 0
+    ∷ (49 ∷ 48 ∷ [])  -- 10
+    ∷ (45 ∷ 55 ∷ [])  -- -7
+    ∷ [])
+    ≡ false ∷ false ∷ false ∷ false ∷ false ∷ true ∷ true ∷ true ∷ []
+unfolding numberForm unsignedForm unsigned negative isDigit equal startsWith
+forms = refl
+
+-- a number of any length is read, its value held
+long : numberOf (57 ∷ 57 ∷ 57 ∷ 57 ∷ 57 ∷ 57 ∷ 57 ∷ 57 ∷ 57 ∷ 57 ∷ 57 ∷ 57 ∷ 57 ∷ 57 ∷ 57 ∷ 57 ∷ 57 ∷ 57 ∷ 57 ∷ 57 ∷ []) ≡ number.Plus ceiling
+unfolding numberOf numberValue decimal numberForm unsignedForm unsigned negative isDigit equal startsWith
+long = refl
+
+-- a minus on a number that can't be negative is out of range
+below : rangedOf (numberOf (45 ∷ 53 ∷ [])) 0 3 ≡ record { refusal = outOfRange; number = 0 }
+unfolding rangedOf numberOf numberValue decimal numberForm unsignedForm unsigned negative isDigit equal startsWith
+below = refl
+
+-- the least integer is a value
+least : valueOf (105 ∷ 45 ∷ 50 ∷ 49 ∷ 52 ∷ 55 ∷ 52 ∷ 56 ∷ 51 ∷ 54 ∷ 52 ∷ 56 ∷ []) ≡ accepted (Int (negsuc 2147483647))
+unfolding valueOf byLetter intOf plusOf minusOf rangedOf numberOf numberValue decimal numberForm unsignedForm unsigned negative isDigit equal startsWith
+least = refl
+
+-- i2147483648 is out of range
+past : valueOf (105 ∷ 50 ∷ 49 ∷ 52 ∷ 55 ∷ 52 ∷ 56 ∷ 51 ∷ 54 ∷ 52 ∷ 56 ∷ []) ≡ noValue outOfRange
+unfolding valueOf byLetter intOf plusOf minusOf rangedOf numberOf numberValue decimal numberForm unsignedForm unsigned negative isDigit equal startsWith
+past = refl
+
+-- a255 is a value
+atom : valueOf (97 ∷ 50 ∷ 53 ∷ 53 ∷ []) ≡ accepted (Atom 255)
+unfolding valueOf byLetter intOf plusOf minusOf rangedOf numberOf numberValue decimal numberForm unsignedForm unsigned negative isDigit equal startsWith
+atom = refl
+
+-- p0, p17, p-1 and a256 are out of range; an unknown letter is malformed
+refusals : map (λ (l : List ℕ). valueOf l .refusal) (
+    (112 ∷ 48 ∷ [])  -- p0
+    ∷ (112 ∷ 49 ∷ 55 ∷ [])  -- p17
+    ∷ (112 ∷ 45 ∷ 49 ∷ [])  -- p-1
+    ∷ (97 ∷ 50 ∷ 53 ∷ 54 ∷ [])  -- a256
+    ∷ (120 ∷ 49 ∷ [])  -- x1
+    ∷ (97 ∷ 48 ∷ 49 ∷ [])  -- a01
+    ∷ []
+    ∷ [])
+    ≡ outOfRange ∷ outOfRange ∷ outOfRange ∷ outOfRange ∷ malformed ∷ malformed ∷ malformed ∷ []
+unfolding valueOf byLetter intOf plusOf minusOf rangedOf numberOf numberValue decimal numberForm unsignedForm unsigned negative isDigit equal startsWith
+refusals = refl
+
+-- the text of the least integer
+text : valueText (Int (negsuc 2147483647)) ≡ 105 ∷ 45 ∷ 50 ∷ 49 ∷ 52 ∷ 55 ∷ 52 ∷ 56 ∷ 51 ∷ 54 ∷ 52 ∷ 56 ∷ []
+unfolding valueText numberText intText digits digitsIn
+text = refl
+
+-- a last line without its byte 10 is the rest
+lines : linesOf (97 ∷ 10 ∷ 10 ∷ 98 ∷ []) ≡ record { whole = (97 ∷ []) ∷ [] ∷ []; rest = 98 ∷ [] }
+unfolding linesOf lastApart lineThen split inFront
+lines = refl
+
+-- commas part fields, empty ones too
+fields : fieldsOf (97 ∷ 44 ∷ 44 ∷ 98 ∷ []) ≡ (97 ∷ []) ∷ [] ∷ (98 ∷ []) ∷ []
+unfolding fieldsOf split inFront
+fields = refl

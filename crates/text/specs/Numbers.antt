@@ -1,0 +1,71 @@
+-- Numbers in base ten (document 01: "Numbers have no plus, leading zero or -0").
+--   malformed outOfRange   document 01's numbers for a wrong form and for a number out of its range
+--   isDigit b              b is one of the bytes 48 to 57
+--   unsignedForm l         l is 0, or digits of which the first is not 0
+--   negative l             l starts with a minus, byte 45
+--   unsigned l             l without its minus
+--   numberForm l           l is a number: not -0, and unsigned or a minus and an unsigned number
+--   decimal n l            the value of the digits of n and then those of l
+--   numberValue l          the value of l without its sign, at any length
+--   ceiling                past every range; a value that is read is held here
+--   numberOf l             what is read: malformed, or the sign and the value
+--   noNumber refusal       what is read with a range where it is refused
+--   rangedOf n low high    what is read with a range: n, which can't be negative, has to be within low to high
+use mathlib.Core.Bool.{Bool, false, _&&_, not, cond}
+use mathlib.Core.List.{List, [], _∷_}
+use Prim.Native.Nat.{ℕ, _+_, _*_, _-_, min}
+use lib.Dec.{eqb, leb}
+use lib.ListN.{drop}
+use Rattle.node.specs.Lists.{allOf}
+use Rattle.text.specs.declared.Number.the-variants as number
+use Rattle.text.specs.declared.Number.{Number}
+use Rattle.text.specs.declared.Ranged.{Ranged}
+use Rattle.text.specs.Parts.{equal, startsWith}
+
+-- "11 wrong key, word, operand count, number form, missing or surplus line; 12 number out of range"
+abbrev pub malformed : ℕ
+malformed = 11
+
+abbrev pub outOfRange : ℕ
+outOfRange = 12
+
+unfoldable pub isDigit : ℕ → Bool
+isDigit b = leb 48 b && leb b 57
+
+unfoldable pub unsignedForm : List ℕ → Bool
+unsignedForm [] = false
+unsignedForm (b ∷ l) = cond (eqb b 48) (equal l []) (allOf isDigit (b ∷ l))
+
+unfoldable pub negative : List ℕ → Bool
+negative l = startsWith (45 ∷ []) l
+
+unfoldable pub unsigned : List ℕ → List ℕ
+unsigned l = cond (negative l) (drop 1 l) l
+
+unfoldable pub numberForm : List ℕ → Bool
+numberForm l = not (equal l (45 ∷ 48 ∷ [])) && unsignedForm (unsigned l)
+
+unfoldable pub decimal : ℕ → List ℕ → ℕ
+decimal n [] = n
+decimal n (b ∷ l) = decimal (n * 10 + (b - 48)) l
+
+unfoldable pub numberValue : List ℕ → ℕ
+numberValue l = decimal 0 (unsigned l)
+
+abbrev pub ceiling : ℕ
+ceiling = 4294967296
+
+unfoldable pub numberOf : List ℕ → Number
+numberOf l =
+    cond (numberForm l)
+    (cond (negative l) (number.Minus (min (numberValue l) ceiling)) (number.Plus (min (numberValue l) ceiling)))
+    number.Malformed
+
+abbrev pub noNumber : ℕ → Ranged
+noNumber refusal = record { refusal = refusal; number = 0 }
+
+-- "a minus on a number that can't be negative is 12"
+unfoldable pub rangedOf : Number → ℕ → ℕ → Ranged
+rangedOf number.Malformed low high = noNumber malformed
+rangedOf (number.Minus n) low high = noNumber outOfRange
+rangedOf (number.Plus n) low high = cond (leb low n && leb n high) (record { refusal = 0; number = n }) (noNumber outOfRange)
