@@ -1,0 +1,137 @@
+-- `exit`: the first line that applies. Assumes nothing.
+use mathlib.Core.Path.{_∙_}
+use Rattle.rules.specs.Arrive.{exits}
+use borrow.Author.Needs.{needs}
+use Rattle.decisions.proofs.exit.Statement.{statement}
+use Rattle.decisions.proofs.exit.Tie as tie
+
+links-to-requires : tie.Need-links-to-requires
+links-to-requires c κs = search needs
+
+both-requires : tie.Need-both-requires
+both-requires c κs = search needs
+
+becomes-requires : tie.Need-becomes-requires
+becomes-requires c κs = search needs
+
+returns : tie.Need-returns
+unfolding exits
+returns c =
+    let its-becomes = c .becomes in
+    let its-links-to = c .before .before .before .links-to in
+    let its-both = c .before .before .both in
+    let its-if1 = c .before .if1 in
+    λ m e. rw (its-becomes .ensures, ← its-links-to .ensures, ← its-both .ensures, its-if1 .taken)
+
+same-value-requires : tie.Need-same-value-requires
+same-value-requires c κs = search needs
+
+both-requires-2 : tie.Need-both-requires-2
+both-requires-2 c κs = search needs
+
+ended-requires : tie.Need-ended-requires
+ended-requires c κs = search needs
+
+becomes-requires-2 : tie.Need-becomes-requires-2
+becomes-requires-2 c κs = search needs
+
+returns-2 : tie.Need-returns-2
+unfolding exits
+returns-2 c =
+    let its-becomes2 = c .becomes2 in
+    let its-ended = c .before .ended in
+    let its-links-to = c .before .before .before .before .before .before .before .links-to in
+    let its-both = c .before .before .before .before .before .before .both in
+    let its-if1 = c .before .before .before .before .before .if1 in
+    let its-same-value = c .before .before .before .before .same-value in
+    let its-both2 = c .before .before .before .both2 in
+    let its-if2 = c .before .before .if2 in
+    λ m e. rw (its-becomes2 .ensures, its-ended .ensures, ← its-links-to .ensures, ← its-both .ensures, its-if1 .left, ← its-same-value .ensures, ← its-both2 .ensures, its-if2 .taken)
+
+note-requires : tie.Need-note-requires
+note-requires c κs = search needs
+
+returns-3 : tie.Need-returns-3
+unfolding exits
+returns-3 c =
+    let its-note = c .note in
+    let its-args = c .before .before .before .before .before .before .before .before .args in
+    let its-links-to = c .before .before .before .before .before .before .before .links-to in
+    let its-both = c .before .before .before .before .before .before .both in
+    let its-if1 = c .before .before .before .before .before .if1 in
+    let its-same-value = c .before .before .before .before .same-value in
+    let its-both2 = c .before .before .before .both2 in
+    let its-if2 = c .before .before .if2 in
+    let its-if3 = c .before .if3 in
+    λ m e. its-note .ensures (its-args .i .0) m e ∙ rw (← its-links-to .ensures, ← its-both .ensures, its-if1 .left, ← its-same-value .ensures, ← its-both2 .ensures, its-if2 .left, its-if3 .taken)
+
+same-value-requires-2 : tie.Need-same-value-requires-2
+same-value-requires-2 c κs = search needs
+
+both-requires-3 : tie.Need-both-requires-3
+both-requires-3 c κs = search needs
+
+becomes-requires-3 : tie.Need-becomes-requires-3
+becomes-requires-3 c κs = search needs
+
+returns-4 : tie.Need-returns-4
+unfolding exits
+returns-4 c =
+    let its-becomes3 = c .becomes3 in
+    let its-links-to = c .before .before .before .before .before .before .before .before .before .before .before .before .links-to in
+    let its-both = c .before .before .before .before .before .before .before .before .before .before .before .both in
+    let its-if1 = c .before .before .before .before .before .before .before .before .before .before .if1 in
+    let its-same-value = c .before .before .before .before .before .before .before .before .before .same-value in
+    let its-both2 = c .before .before .before .before .before .before .before .before .both2 in
+    let its-if2 = c .before .before .before .before .before .before .before .if2 in
+    let its-if3 = c .before .before .before .before .before .before .if3 in
+    let its-same-value2 = c .before .before .before .before .before .same-value2 in
+    let its-both3 = c .before .before .both3 in
+    let its-if4 = c .before .if4 in
+    λ m e. rw (its-becomes3 .ensures, ← its-links-to .ensures, ← its-both .ensures, its-if1 .left, ← its-same-value .ensures, ← its-both2 .ensures, its-if2 .left, its-if3 .left, ← its-same-value2 .ensures, ← its-both3 .ensures, its-if4 .taken)
+
+ended-requires-2 : tie.Need-ended-requires-2
+ended-requires-2 c κs = search needs
+
+becomes-requires-4 : tie.Need-becomes-requires-4
+becomes-requires-4 c κs = search needs
+
+returns-5 : tie.Need-returns-5
+unfolding exits
+returns-5 c =
+    let its-becomes4 = c .becomes4 in
+    let its-ended2 = c .before .ended2 in
+    let its-links-to = c .before .before .before .before .before .before .before .before .before .before .before .before .before .links-to in
+    let its-both = c .before .before .before .before .before .before .before .before .before .before .before .before .both in
+    let its-if1 = c .before .before .before .before .before .before .before .before .before .before .before .if1 in
+    let its-same-value = c .before .before .before .before .before .before .before .before .before .before .same-value in
+    let its-both2 = c .before .before .before .before .before .before .before .before .before .both2 in
+    let its-if2 = c .before .before .before .before .before .before .before .before .if2 in
+    let its-if3 = c .before .before .before .before .before .before .before .if3 in
+    let its-same-value2 = c .before .before .before .before .before .before .same-value2 in
+    let its-both3 = c .before .before .before .both3 in
+    let its-if4 = c .before .before .if4 in
+    λ m e. rw (its-becomes4 .ensures, its-ended2 .ensures, ← its-links-to .ensures, ← its-both .ensures, its-if1 .left, ← its-same-value .ensures, ← its-both2 .ensures, its-if2 .left, its-if3 .left, ← its-same-value2 .ensures, ← its-both3 .ensures, its-if4 .left)
+
+pub exit-spec : {M : Type 1} → statement M
+exit-spec =
+    tie.close
+    (tie.spec
+    links-to-requires
+    both-requires
+    becomes-requires
+    returns
+    same-value-requires
+    both-requires-2
+    ended-requires
+    becomes-requires-2
+    returns-2
+    note-requires
+    returns-3
+    same-value-requires-2
+    both-requires-3
+    becomes-requires-3
+    returns-4
+    ended-requires-2
+    becomes-requires-4
+    returns-5)

@@ -1,0 +1,19 @@
+-- `run_clause`: the place rises by 1. Assumes nothing.
+use borrow.Author.Needs.{needs}
+use Rattle.decisions.proofs.run_clause.Statement.{statement}
+use Rattle.decisions.proofs.run_clause.Tie as tie
+
+advanced-requires : tie.Need-advanced-requires
+advanced-requires c κs = search needs
+
+becomes-requires : tie.Need-becomes-requires
+becomes-requires c κs = search needs
+
+returns : tie.Need-returns
+returns c =
+    let its-becomes = c .becomes in
+    let its-advanced = c .before .advanced in
+    λ i code o m. rw (its-becomes .ensures, its-advanced .ensures)
+
+pub run-clause-spec : {M : Type 1} → statement M
+run-clause-spec = tie.close (tie.spec advanced-requires becomes-requires returns)

@@ -1,0 +1,504 @@
+// The local decision of a step: what a process does at a run or at an arrival, from small values alone.
+ghost use mathlib.Core.Path.{_≡_};
+ghost use mathlib.Core.List.{List};
+ghost use mathlib.Core.Bool.{true, false, _&&_};
+ghost use Prim.Native.Nat.{ℕ};
+ghost use lib.Dec.{eqb};
+ghost use lib.IntN.{_+ℤ_};
+ghost use lib.ListN.{length, getD};
+ghost use Rattle.node.specs.declared.Mailbox.{Mailbox};
+ghost use Rattle.node.specs.declared.Op.{Op};
+ghost use Rattle.node.specs.declared.Signal.the-variants.{Msg, Exit, Link, Unlink};
+ghost use Rattle.node.specs.declared.Value.the-variants.{Int};
+ghost use Rattle.node.specs.Nodes.{noOp};
+ghost use Rattle.node.specs.Processes.{register, moved, advanced, trapped, linked, unlinked};
+ghost use Rattle.node.specs.Values.{pid, normal};
+ghost use Rattle.rules.specs.Effects.{becomes, ends, sends};
+ghost use Rattle.rules.specs.Run.{setsRegister, jumpsIf, adds, compares, toProcess, toOther, spawns, runsOp, closes, runsLive, runs};
+ghost use Rattle.rules.specs.Arrive.{joinsWith, notes, exits, takes, arrives};
+ghost use Rattle.rules.specs.Values.{sameValue};
+ghost use Rattle.decisions.specs.Answers.{stateOf, refusesEffect, becomesEffect, sendsEffect, answerOf, runOf, Says, sumOf, integersOf};
+use node::BehaviourNumber;
+use node::Message;
+use node::Op;
+use node::Process;
+use node::ProcessNumber;
+use node::Signal;
+use node::Stage;
+use node::Value;
+use receive::same_value;
+
+// What a process decides on: a refusal (0 if none), and otherwise its next self, and what becomes of its mailbox, what it sends and
+// whom it brings to life, each where its flag is set.
+pub struct Effect {
+    pub refusal: u8,
+    pub process: Process,
+    // The mailbox is searched, by the clauses behind the op.
+    pub receives: bool,
+    pub joins: bool,
+    pub message: Message,
+    pub sends: bool,
+    pub to: ProcessNumber,
+    pub signal: Signal,
+    pub spawns: bool,
+    pub number: ProcessNumber,
+    pub behaviour: BehaviourNumber,
+}
+
+impl Effect {
+    fn refuses(p: Process, k: u8) -> Effect
+        ensures { λ e. ⌜ e ≡ refusesEffect p k ⌝ }
+    {
+        Effect {
+            refusal: k,
+            process: p,
+            receives: false,
+            joins: false,
+            message: Message::Plain(Value::ZERO),
+            sends: false,
+            to: ProcessNumber(0),
+            signal: Signal::Link,
+            spawns: false,
+            number: ProcessNumber(0),
+            behaviour: BehaviourNumber(0),
+        }
+    }
+
+    // Only the process changes.
+    fn becomes(p: Process) -> Effect
+        ensures { λ e. ⌜ e ≡ becomesEffect p ⌝ }
+    {
+        Effect::refuses(p, 0)
+    }
+
+    fn sends(p: Process, j: ProcessNumber, x: Signal) -> Effect
+        ensures { λ e. ⌜ e ≡ sendsEffect p j x ⌝ }
+    {
+        Effect {
+            refusal: 0,
+            process: p,
+            receives: false,
+            joins: false,
+            message: Message::Plain(Value::ZERO),
+            sends: true,
+            to: j,
+            signal: x,
+            spawns: false,
+            number: ProcessNumber(0),
+            behaviour: BehaviourNumber(0),
+        }
+    }
+}
+
+// ---- the ops, each by its number
+
+fn run_set(p: Process, op: Op) -> Effect
+    ensures { λ e. ⌜ ((i : ℕ) → Says i e p (λ st. setsRegister st (op .r) (op .value))) ⌝ }
+{
+    let v = op.value;
+    Effect::becomes(p.with_register(op.r, v).advanced())
+}
+
+fn run_copy(p: Process, op: Op) -> Effect
+    ensures { λ e. ⌜ ((i : ℕ) → Says i e p (λ st. setsRegister st (op .r) (register p (op .s)))) ⌝ }
+{
+    let v = p.register(op.s);
+    Effect::becomes(p.with_register(op.r, v).advanced())
+}
+
+fn run_self(i: ProcessNumber, p: Process, op: Op) -> Effect
+    ensures { λ e. ⌜ ((k : ℕ) → Says k e p (λ st. setsRegister st (op .r) (pid (i .0)))) ⌝ }
+{
+    Effect::becomes(p.with_register(op.r, Value::Pid(i)).advanced())
+}
+
+// The sum of two integers, where it is an integer too.
+struct Sum {
+    fits: bool,
+    total: Value,
+}
+
+fn total_of(x: i32, y: i32) -> Sum
+    ensures { λ r. ⌜ r ≡ sumOf (x +ℤ y) ⌝ }
+{
+    let z = (x as i64) + (y as i64);
+    if z < -2147483648 {
+        return Sum {
+            fits: false,
+            total: Value::ZERO,
+        };
+    }
+    if 2147483647 < z {
+        return Sum {
+            fits: false,
+            total: Value::ZERO,
+        };
+    }
+    let w = z as i32;
+    Sum {
+        fits: true,
+        total: Value::Int(w),
+    }
+}
+
+// Two integers whose sum is one go to register r; anything else ends the process.
+fn add(p: Process, r: u8, x: i32, y: i32) -> Effect
+    ensures { λ e. ⌜ ((i : ℕ) → Says i e p (λ st. adds st r (Int x) (Int y))) ⌝ }
+{
+    let s = total_of(x, y);
+    let fits = s.fits;
+    if fits {
+        let v = s.total;
+        return Effect::becomes(p.with_register(r, v).advanced());
+    }
+    Effect::becomes(p.ended(Value::BADARITH))
+}
+
+// Whether two values are both integers.
+enum Pair {
+    Not,
+    Both(i32, i32),
+}
+
+fn integers(v: Value, w: Value) -> Pair
+    ensures { λ r. ⌜ r ≡ integersOf v w ⌝ }
+{
+    match v {
+        Value::Int(x) => match w {
+            Value::Int(y) => Pair::Both(x, y),
+            Value::Atom(_) => Pair::Not,
+            Value::Pid(_) => Pair::Not,
+        },
+        Value::Atom(_) => Pair::Not,
+        Value::Pid(_) => Pair::Not,
+    }
+}
+
+fn run_add(p: Process, op: Op) -> Effect
+    ensures { λ e. ⌜ ((i : ℕ) → Says i e p (λ st. adds st (op .r) (register p (op .r)) (register p (op .s)))) ⌝ }
+{
+    let v = p.register(op.r);
+    let w = p.register(op.s);
+    let both = integers(v, w);
+    match both {
+        Pair::Not => Effect::becomes(p.ended(Value::BADARITH)),
+        Pair::Both(x, y) => add(p, op.r, x, y),
+    }
+}
+
+// A signal to the process that v names; where it names none the process ends, and no pair is looked at.
+fn send_to(p: Process, v: Value, x: Signal) -> Effect
+    ensures { λ e. ⌜ ((i : ℕ) → Says i e p (λ st. toProcess st v (λ j. sends st (advanced p) j x))) ⌝ }
+{
+    match v {
+        Value::Int(_) => Effect::becomes(p.ended(Value::BADARG)),
+        Value::Atom(_) => Effect::becomes(p.ended(Value::BADARG)),
+        Value::Pid(j) => Effect::sends(p.advanced(), j, x),
+    }
+}
+
+fn run_send(p: Process, op: Op) -> Effect
+    ensures { λ e. ⌜ ((i : ℕ) → Says i e p (λ st. toProcess st (register p (op .r)) (λ j. sends st (advanced p) j (Msg (register p (op .s)))))) ⌝ }
+{
+    let v = p.register(op.r);
+    let w = p.register(op.s);
+    send_to(p, v, Signal::Msg(w))
+}
+
+fn run_exit(p: Process, op: Op) -> Effect
+    ensures { λ e. ⌜ ((i : ℕ) → Says i e p (λ st. toProcess st (register p (op .r)) (λ j. sends st (advanced p) j (Exit (register p (op .s)) false)))) ⌝ }
+{
+    let v = p.register(op.r);
+    let w = p.register(op.s);
+    send_to(p, v, Signal::Exit(w, false))
+}
+
+fn run_link(i: ProcessNumber, p: Process, op: Op) -> Effect
+    ensures { λ e. ⌜ Says (i .0) e p (λ st. toProcess st (register p (op .r)) (λ j. toOther (i .0) st j (sends st (advanced (linked p j)) j Link))) ⌝ }
+{
+    let v = p.register(op.r);
+    match v {
+        Value::Int(_) => Effect::becomes(p.ended(Value::BADARG)),
+        Value::Atom(_) => Effect::becomes(p.ended(Value::BADARG)),
+        Value::Pid(j) => {
+            if j.0 == i.0 {
+                return Effect::becomes(p.advanced());
+            }
+            Effect::sends(p.linked(j).advanced(), j, Signal::Link)
+        }
+    }
+}
+
+fn run_unlink(i: ProcessNumber, p: Process, op: Op) -> Effect
+    ensures { λ e. ⌜ Says (i .0) e p (λ st. toProcess st (register p (op .r)) (λ j. toOther (i .0) st j (sends st (advanced (unlinked p j)) j Unlink))) ⌝ }
+{
+    let v = p.register(op.r);
+    match v {
+        Value::Int(_) => Effect::becomes(p.ended(Value::BADARG)),
+        Value::Atom(_) => Effect::becomes(p.ended(Value::BADARG)),
+        Value::Pid(j) => {
+            if j.0 == i.0 {
+                return Effect::becomes(p.advanced());
+            }
+            Effect::sends(p.unlinked(j).advanced(), j, Signal::Unlink)
+        }
+    }
+}
+
+fn run_trap(p: Process, op: Op) -> Effect
+    ensures { λ e. ⌜ ((i : ℕ) → Says i e p (λ st. becomes st (advanced (trapped p (eqb (op .small) 1))))) ⌝ }
+{
+    let f = op.small;
+    Effect::becomes(p.trapped(f == 1).advanced())
+}
+
+fn run_spawn(p: Process, op: Op) -> Effect
+    ensures { λ e. ⌜ ((i : ℕ) → Says i e p (λ st. spawns i st op)) ⌝ }
+{
+    let q = op.process;
+    let b = op.behaviour;
+    let next = p.with_register(op.r, Value::Pid(q)).advanced();
+    Effect {
+        refusal: 0,
+        process: next,
+        receives: false,
+        joins: false,
+        message: Message::Plain(Value::ZERO),
+        sends: false,
+        to: ProcessNumber(0),
+        signal: Signal::Link,
+        spawns: true,
+        number: q,
+        behaviour: b,
+    }
+}
+
+// The search itself needs the mailbox and the clauses, so a recv only says that it is due.
+fn run_recv(p: Process) -> Effect
+    ensures { λ e. ⌜ e .receives ≡ true ⌝ }
+{
+    Effect {
+        refusal: 0,
+        process: p,
+        receives: true,
+        joins: false,
+        message: Message::Plain(Value::ZERO),
+        sends: false,
+        to: ProcessNumber(0),
+        signal: Signal::Link,
+        spawns: false,
+        number: ProcessNumber(0),
+        behaviour: BehaviourNumber(0),
+    }
+}
+
+fn run_clause(p: Process) -> Effect
+    ensures { λ e. ⌜ ((i : ℕ) → Says i e p (λ st. becomes st (advanced p))) ⌝ }
+{
+    Effect::becomes(p.advanced())
+}
+
+fn run_jump(p: Process, op: Op) -> Effect
+    ensures { λ e. ⌜ ((i : ℕ) → Says i e p (λ st. becomes st (moved p (op .target)))) ⌝ }
+{
+    Effect::becomes(p.moved(op.target))
+}
+
+// To place t where b holds, else on.
+fn jump_if(p: Process, b: bool, t: u8) -> Effect
+    ensures { λ e. ⌜ ((i : ℕ) → Says i e p (λ st. jumpsIf st b t)) ⌝ }
+{
+    if b {
+        return Effect::becomes(p.moved(t));
+    }
+    Effect::becomes(p.advanced())
+}
+
+fn run_same(p: Process, op: Op) -> Effect
+    ensures { λ e. ⌜ ((i : ℕ) → Says i e p (λ st. jumpsIf st (sameValue (register p (op .r)) (op .value)) (op .target))) ⌝ }
+{
+    let v = p.register(op.r);
+    let w = op.value;
+    let b = same_value(v, w);
+    jump_if(p, b, op.target)
+}
+
+fn run_less(p: Process, op: Op) -> Effect
+    ensures { λ e. ⌜ ((i : ℕ) → Says i e p (λ st. compares st (op .target) (register p (op .r)) (register p (op .s)))) ⌝ }
+{
+    let v = p.register(op.r);
+    let w = p.register(op.s);
+    let both = integers(v, w);
+    match both {
+        Pair::Not => Effect::becomes(p.ended(Value::BADARG)),
+        Pair::Both(x, y) => jump_if(p, x < y, op.target),
+    }
+}
+
+fn run_stop(p: Process, op: Op) -> Effect
+    ensures { λ e. ⌜ ((i : ℕ) → Says i e p (λ st. ends st (register p (op .r)))) ⌝ }
+{
+    let v = p.register(op.r);
+    Effect::becomes(p.ended(v))
+}
+
+// The op decides.
+pub fn run_op(i: ProcessNumber, p: Process, op: Op) -> Effect
+    ensures { λ e. ⌜ ((code : List Op) (m : Mailbox) → runOf code (i .0) e (stateOf p m) op ≡ runsOp code (i .0) (stateOf p m) op) ⌝ }
+{
+    let number = op.number;
+    match number {
+        0 => run_set(p, op),
+        1 => run_copy(p, op),
+        2 => run_self(i, p, op),
+        3 => run_add(p, op),
+        4 => run_send(p, op),
+        5 => run_exit(p, op),
+        6 => run_link(i, p, op),
+        7 => run_unlink(i, p, op),
+        8 => run_trap(p, op),
+        9 => run_spawn(p, op),
+        10 => run_recv(p),
+        11 => run_clause(p),
+        12 => run_jump(p, op),
+        13 => run_same(p, op),
+        14 => run_less(p, op),
+        _ => run_stop(p, op),
+    }
+}
+
+// ---- a run
+
+// Tells the lowest link and drops it; without links the process is gone.
+fn close(p: Process) -> Effect
+    ensures { λ e. ⌜ ((i : ℕ) → Says i e p closes) ⌝ }
+{
+    let links = p.links;
+    let mut k: u8 = 0;
+    while k < 16 {
+        let at = k as usize;
+        let here = links[at];
+        if here {
+            let j = ProcessNumber(k + 1);
+            let v = p.reason;
+            return Effect::sends(p.unlinked(j), j, Signal::Exit(v, true));
+        }
+        k += 1;
+    }
+    Effect::becomes(p.gone())
+}
+
+// A live process whose code has len ops, at op.
+fn run_live(i: ProcessNumber, p: Process, len: u8, op: Op) -> Effect
+    ensures { λ e. ⌜ ((code : List Op) (m : Mailbox) → length code ≡ len → getD code (p .place) noOp ≡ op → runOf code (i .0) e (stateOf p m) op ≡ runsLive code (i .0) (stateOf p m)) ⌝ }
+{
+    if len <= p.place {
+        return Effect::becomes(p.ended(Value::NORMAL));
+    }
+    run_op(i, p, op)
+}
+
+// A run of process i, whose code has len ops and which is at op.
+pub fn run(i: ProcessNumber, p: Process, len: u8, op: Op) -> Effect
+    ensures { λ e. ⌜ ((code : List Op) (m : Mailbox) → length code ≡ len → getD code (p .place) noOp ≡ op → runOf code (i .0) e (stateOf p m) op ≡ runs code (i .0) (stateOf p m)) ⌝ }
+{
+    let stage = p.stage;
+    match stage {
+        Stage::Unborn => Effect::refuses(p, 21),
+        Stage::Live => run_live(i, p, len, op),
+        Stage::Closing => close(p),
+        Stage::Gone => Effect::refuses(p, 22),
+    }
+}
+
+// ---- an arrival
+
+fn both(a: bool, b: bool) -> bool
+    ensures { λ r. ⌜ r ≡ (a && b) ⌝ }
+{
+    if a {
+        return b;
+    }
+    false
+}
+
+// Message x joins a mailbox of count messages.
+fn join(p: Process, count: u8, x: Message) -> Effect
+    ensures { λ e. ⌜ ((i : ℕ) (q : Process) (m : Mailbox) → m .count ≡ count → answerOf i e m ≡ joinsWith (stateOf q m) p x) ⌝ }
+{
+    if 16 <= count {
+        return Effect::refuses(p, 24);
+    }
+    Effect {
+        refusal: 0,
+        process: p,
+        receives: false,
+        joins: true,
+        message: x,
+        sends: false,
+        to: ProcessNumber(0),
+        signal: Signal::Link,
+        spawns: false,
+        number: ProcessNumber(0),
+        behaviour: BehaviourNumber(0),
+    }
+}
+
+// A note of j's end joins; if it came along the link, the link is over.
+fn note(j: ProcessNumber, p: Process, count: u8, v: Value, b: bool) -> Effect
+    ensures { λ e. ⌜ ((i : ℕ) (m : Mailbox) → m .count ≡ count → answerOf i e m ≡ notes (j .0) (stateOf p m) v b) ⌝ }
+{
+    if b {
+        return join(p.unlinked(j), count, Message::Note(j, v));
+    }
+    join(p, count, Message::Note(j, v))
+}
+
+// An exit signal from j: the first of document 01's five lines that applies.
+fn exit(i: ProcessNumber, j: ProcessNumber, p: Process, count: u8, v: Value, b: bool) -> Effect
+    ensures { λ e. ⌜ ((m : Mailbox) → m .count ≡ count → answerOf (i .0) e m ≡ exits (i .0) (j .0) (stateOf p m) v b) ⌝ }
+{
+    let linked = p.links_to(j);
+    if both(b, !linked) {
+        return Effect::becomes(p);
+    }
+    let kill = same_value(v, Value::KILL);
+    if both(!b, kill) {
+        return Effect::becomes(p.ended(Value::KILLED));
+    }
+    let trap = p.trap;
+    if trap {
+        return note(j, p, count, v, b);
+    }
+    let normal = same_value(v, Value::NORMAL);
+    let own = j.0 == i.0;
+    if both(normal, !own) {
+        return Effect::becomes(p);
+    }
+    Effect::becomes(p.ended(v))
+}
+
+// What a live process does with a signal from j.
+fn take(i: ProcessNumber, j: ProcessNumber, p: Process, count: u8, x: Signal) -> Effect
+    ensures { λ e. ⌜ ((m : Mailbox) → m .count ≡ count → answerOf (i .0) e m ≡ takes (i .0) (j .0) (stateOf p m) x) ⌝ }
+{
+    match x {
+        Signal::Msg(v) => join(p, count, Message::Plain(v)),
+        Signal::Exit(v, b) => exit(i, j, p, count, v, b),
+        Signal::Link => Effect::becomes(p.linked(j)),
+        Signal::Unlink => Effect::becomes(p.unlinked(j)),
+    }
+}
+
+// The arrival at process i, whose mailbox has count messages, of signal x from j.
+pub fn arrive(i: ProcessNumber, j: ProcessNumber, p: Process, count: u8, x: Signal) -> Effect
+    ensures { λ e. ⌜ ((m : Mailbox) → m .count ≡ count → answerOf (i .0) e m ≡ arrives (i .0) (j .0) (stateOf p m) x) ⌝ }
+{
+    let stage = p.stage;
+    match stage {
+        Stage::Unborn => Effect::refuses(p, 21),
+        Stage::Live => take(i, j, p, count, x),
+        Stage::Closing => Effect::becomes(p),
+        Stage::Gone => Effect::becomes(p),
+    }
+}
