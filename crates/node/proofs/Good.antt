@@ -1,7 +1,7 @@
 -- What a record tells by its type: how long its arrays are, and that its counts and places are bytes. Assumes nothing.
 use mathlib.Core.List.{List}
 use mathlib.Core.Path.{_≡_, sym, _∙_}
-use Prim.Native.Nat.{ℕ, _<_}
+use Prim.Native.Nat.{_<_}
 use denote.Shadow.{shadow}
 use denote.Struct.Declared.{row}
 use lib.ListN.{length, length-map}

@@ -1,2 +1,5 @@
 pub mod Lists
 pub mod Good
+pub mod Ops
+pub mod Contents
+pub mod Registers

@@ -250,6 +250,16 @@ impl ProcessNumber {
     }
 }
 
+impl BehaviourNumber {
+    // Where the behaviour stands among all; number 0 is read as 1.
+    pub fn index(self) -> usize
+        ensures { λ r. ⌜ r ≡ self .0 - 1 ⌝ }
+    {
+        let n = self.0;
+        fallen(n) as usize
+    }
+}
+
 impl Op {
     // What is read past the ops: all zero.
     pub fn blank() -> Op

@@ -25,7 +25,10 @@ returns c = cc
 
 returns-2 : tie.Need-returns-2
 unfolding joined
-returns-2 c = let s = c .before .before in let z = sized-mailbox (s .args .t1) (s .good .0) in rw (← c .before .risen .ensures, set-out (s .args .t1 .slots) (s .args .t1 .count) (record { message = s .args .m }) (omega arith))
+returns-2 c =
+    let s = c .before .before in
+    let z = sized-mailbox (s .args .t1) (s .good .0) in
+    rw (← c .before .risen .ensures, set-out (s .args .t1 .slots) (s .args .t1 .count) (record { message = s .args .m }) (omega arith))
 
 pub joined-spec : {M : Type 1} → statement M
 joined-spec =

@@ -23,10 +23,15 @@ fallen-requires c κs = search needs
 
 returns : tie.Need-returns Inv-loop μ-loop
 unfolding without
-returns c = let s = c .before .before in let z = sized-mailbox (s .args .self) (s .good .0) in rw (← c .before .fallen .ensures, leave-out noMessage (s .args .k) (s .args .self .slots) (omega arith))
+returns c =
+    let s = c .before .before in
+    let z = sized-mailbox (s .args .self) (s .good .0) in
+    rw (← c .before .fallen .ensures, leave-out noMessage (s .args .k) (s .args .self .slots) (omega arith))
 
 loop-holds : tie.Need-loop-holds Inv-loop μ-loop
-loop-holds c = let s = c .before .before .before in (search needs, sized-mailbox (s .args .self) (s .good .0) .slots, refl)
+loop-holds c =
+    let s = c .before .before .before in
+    (search needs, sized-mailbox (s .args .self) (s .good .0) .slots, refl)
 
 add-slots : tie.Need-add-slots Inv-loop μ-loop
 add-slots c = search needs
@@ -50,14 +55,19 @@ loop-less : tie.Need-loop-less Inv-loop μ-loop
 loop-less c = search needs
 
 loop-again : tie.Need-loop-again Inv-loop μ-loop
-loop-again c = let l = c .before .before .loop in (search needs, length-set (l .slots) (l .i) _ ∙ l .inv .1, leave-more noMessage (l .i) (l .slots) (omega arith) ∙ l .inv .2)
+loop-again c =
+    let l = c .before .before .loop in
+    (search needs, length-set (l .slots) (l .i) _ ∙ l .inv .1, leave-more noMessage (l .i) (l .slots) (omega arith) ∙ l .inv .2)
 
 array-set-from-slots-2 : tie.Need-array-set-from-slots-2 Inv-loop μ-loop
 array-set-from-slots-2 c = search needs
 
 returns-2 : tie.Need-returns-2 Inv-loop μ-loop
 unfolding without
-returns-2 c = let l = c .before .loop in let i : l .i ≡ 15 = omega arith in rw (← c .before .before .before .before .fallen .ensures, ← l .inv .2, i, leave-last noMessage 15 (l .slots) (omega arith))
+returns-2 c =
+    let l = c .before .loop in
+    let i : l .i ≡ 15 = omega arith in
+    rw (← c .before .before .before .before .fallen .ensures, ← l .inv .2, i, leave-last noMessage 15 (l .slots) (omega arith))
 
 pub without-spec : {M : Type 1} → statement M
 without-spec =

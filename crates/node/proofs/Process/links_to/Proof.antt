@@ -21,7 +21,10 @@ returns c = rw (← c .before .before .index .ensures)
 
 returns-2 : tie.Need-returns-2
 unfolding linksTo
-returns-2 c = let s = c .before .before in let z = sized-process (s .args .t1) (s .good .0) in rw (← c .before .index .ensures) (sym (List·getD-eq-default (s .args .t1 .links) false {n = c .before .index .result} (omega arith)))
+returns-2 c =
+    let s = c .before .before in
+    let z = sized-process (s .args .t1) (s .good .0) in
+    rw (← c .before .index .ensures) (sym (List·getD-eq-default (s .args .t1 .links) false {n = c .before .index .result} (omega arith)))
 
 pub links-to-spec : {M : Type 1} → statement M
 links-to-spec = tie.close (tie.spec index-requires element-copy-out-result returns returns-2)

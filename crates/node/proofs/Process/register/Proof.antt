@@ -1,7 +1,6 @@
 -- `Process::register` gives `register`: a number above 2 is none of 0, 1 and 2. Assumes nothing.
+use Rattle.node.proofs.Registers.{none-of-three}
 use Rattle.node.specs.Processes.{register}
-use borrow.Author.Tests.{ne-eqb}
-use native.Mathlib.Omega.{arith}
 use Rattle.node.proofs.Process.register.Statement.{statement}
 use Rattle.node.proofs.Process.register.Tie as tie
 
@@ -19,7 +18,9 @@ returns-3 c = rw (c .match .keys3)
 
 returns-4 : tie.Need-returns-4
 unfolding register
-returns-4 c = let r = c .before .args .r in let h = c .match .rest in rw (ne-eqb r 0 (λ q. omega (arith, h, q)), ne-eqb r 1 (λ q. omega (arith, h, q)), ne-eqb r 2 (λ q. omega (arith, h, q)))
+returns-4 c =
+    let h = none-of-three (c .before .args .r) (c .match .rest) in
+    rw (h .0, h .1, h .2)
 
 pub register-spec : {M : Type 1} → statement M
 register-spec = tie.close (tie.spec returns returns-2 returns-3 returns-4)

@@ -16,7 +16,10 @@ returns : tie.Need-returns
 returns c = cc
 
 returns-2 : tie.Need-returns-2
-returns-2 c = let s = c .before .before in let z = sized-process (s .args .t1) (s .good .0) in rw (← c .before .index .ensures, set-out (s .args .t1 .links) (c .before .index .result) (s .args .b) (omega arith))
+returns-2 c =
+    let s = c .before .before in
+    let z = sized-process (s .args .t1) (s .good .0) in
+    rw (← c .before .index .ensures, set-out (s .args .t1 .links) (c .before .index .result) (s .args .b) (omega arith))
 
 pub with-link-spec : {M : Type 1} → statement M
 with-link-spec = tie.close (tie.spec index-requires element-write-self returns returns-2)

@@ -1,8 +1,7 @@
 -- `Process::with_register` gives `withRegister`: a number above 2 is none of 0, 1 and 2. Assumes nothing.
+use Rattle.node.proofs.Registers.{none-of-three}
 use Rattle.node.specs.Processes.{withRegister}
 use borrow.Author.Needs.{needs}
-use borrow.Author.Tests.{ne-eqb}
-use native.Mathlib.Omega.{arith}
 use Rattle.node.proofs.Process.with_register.Statement.{statement}
 use Rattle.node.proofs.Process.with_register.Tie as tie
 
@@ -32,7 +31,9 @@ returns-3 c = rw (c .before .match .keys3) (c .with-registers3 .ensures)
 
 returns-4 : tie.Need-returns-4
 unfolding withRegister
-returns-4 c = let r = c .before .before .args .r in let h = c .before .match .rest in rw (ne-eqb r 0 (λ q. omega (arith, h, q)), ne-eqb r 1 (λ q. omega (arith, h, q)), ne-eqb r 2 (λ q. omega (arith, h, q))) (c .with-registers4 .ensures)
+returns-4 c =
+    let h = none-of-three (c .before .before .args .r) (c .before .match .rest) in
+    rw (h .0, h .1, h .2) (c .with-registers4 .ensures)
 
 pub with-register-spec : {M : Type 1} → statement M
 with-register-spec =

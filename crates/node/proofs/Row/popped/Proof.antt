@@ -34,7 +34,10 @@ fallen-requires c κs = search needs
 
 returns : tie.Need-returns
 unfolding popped
-returns c = let s = c .before .before .before .before in let z = sized-row (s .args .t1) (s .good .0) in rw (← c .fallen .ensures) (ap (λ (l : List Cell). record { cells = l; count = c .fallen .result }) (shift (s .args .t1 .cells) (z .cells)))
+returns c =
+    let s = c .before .before .before .before in
+    let z = sized-row (s .args .t1) (s .good .0) in
+    rw (← c .fallen .ensures) (ap (λ (l : List Cell). record { cells = l; count = c .fallen .result }) (shift (s .args .t1 .cells) (z .cells)))
 
 pub popped-spec : {M : Type 1} → statement M
 popped-spec =

@@ -25,7 +25,10 @@ returns c = cc
 
 returns-2 : tie.Need-returns-2
 unfolding pushed
-returns-2 c = let s = c .before .before in let z = sized-row (s .args .t1) (s .good .0) in rw (← c .before .risen .ensures, set-out (s .args .t1 .cells) (s .args .t1 .count) (record { signal = s .args .x }) (omega arith))
+returns-2 c =
+    let s = c .before .before in
+    let z = sized-row (s .args .t1) (s .good .0) in
+    rw (← c .before .risen .ensures, set-out (s .args .t1 .cells) (s .args .t1 .count) (record { signal = s .args .x }) (omega arith))
 
 pub pushed-spec : {M : Type 1} → statement M
 pushed-spec =
