@@ -1,0 +1,126 @@
+-- What the code reads of the ops of a node is what the plan's rules read of its behaviours. Assumes nothing.
+use mathlib.Core.Bool.{Bool, true, false, _&&_, _||_, not, cond, and-assoc}
+use mathlib.Core.List.{List, [], _∷_, map}
+use mathlib.Core.Path.{_≡_, refl, sym, _∙_, ap}
+use Prim.Native.Nat.{ℕ, zero, suc, _+_, _-_, _*_, _≤_, _<_}
+use native.Mathlib.Omega.{arith}
+use borrow.Author.Tests.{eqb-true, lt-ltb}
+use lib.Dec.{eqb, leb}
+use lib.ListN.{length, getD, drop, List·getD-eq-default}
+use lib.Seq.{getD-drop}
+use Rattle.node.specs.declared.Op.{Op}
+use Rattle.node.specs.Lists.{allFrom, allOf}
+use Rattle.node.specs.Nodes.{noOp}
+use Rattle.node.specs.Ops.{kindsOf}
+use Rattle.node.proofs.Lists.{allFrom-both, allFrom-same, allOf-from, allTwo-map, getD-in, held-at, held-length, map-rising-at, map-rising-length}
+use Rattle.rules.specs.Behaviours.{Instruction, clauseCount, codeSound, inRange, instruction, noInstruction, numeric, onClause, operand, operandInRange, targetsFree, wellPlaced}
+use Rattle.behaviours.specs.Codes.{codeIn, codesIn, hasTarget, opsSound, placed}
+
+-- ---- ops
+
+-- recv's n
+pub clause-count : (o : Op) → o .number ≡ 10 → clauseCount (instruction o) ≡ o .small
+unfolding instruction operand kindsOf
+clause-count o e = ap (λ (n : ℕ). getD (map (operand o) (kindsOf n)) 0 (numeric 0) .number) e
+
+-- an arm of a `match` on the kind of an operand
+pub kind-is : (o : Op) (c n kind k : ℕ) → kind ≡ k → operandInRange c n k (operand o k) ≡ operandInRange c n kind (operand o kind)
+kind-is o c n kind k e = sym (ap (λ (x : ℕ). operandInRange c n x (operand o x)) e)
+
+-- none of the kinds 1 to k: what the last arm knows
+abbrev Past : ℕ → ℕ → Type 0
+Past zero kind = Unit {0}
+Past (suc k) kind = Past k kind × (kind ≡ suc k → ⊥)
+
+past : (k kind : ℕ) → Past k kind → 0 < kind → k < kind
+past zero kind h p = p
+past (suc k) kind h p = let l : k < kind = past k kind (h .0) p in let d : kind ≡ suc k → ⊥ = h .1 in omega arith
+
+pub kind-past : (o : Op) (c n kind : ℕ) → Past 9 kind → true ≡ operandInRange c n kind (operand o kind)
+unfolding operandInRange
+kind-past o c n zero h = refl
+kind-past o c n (suc k) h =
+    let p : 9 < suc k = past 9 (suc k) h (omega arith) in
+    kind-is o c n (suc k) (suc (suc (suc (suc (suc (suc (suc (suc (suc (suc (k - 9))))))))))) (omega arith)
+
+-- the operands of an op, by their kinds
+pub in-range-by : (o : Op) (c n : ℕ) → o .number < 16 → allOf (λ (k : ℕ). operandInRange c n k (operand o k)) (kindsOf (o .number)) ≡ inRange c n (instruction o)
+unfolding inRange instruction
+in-range-by o c n h = rw (lt-ltb (o .number) 16 h) (sym (allTwo-map (operandInRange c n) (operand o) (kindsOf (o .number))))
+
+-- ---- a behaviour
+
+pub code-length : (n : ℕ) (ops : List Op) (k : ℕ) → length (codeIn n ops k) ≡ n
+unfolding codeIn
+code-length n ops k = held-length instruction noOp n (drop (32 * k) ops)
+
+pub code-at : (n : ℕ) (ops : List Op) (k t : ℕ) → t < n → getD (codeIn n ops k) t (instruction noOp) ≡ instruction (getD ops (32 * k + t) noOp)
+unfolding codeIn
+code-at n ops k t h = held-at instruction noOp n (drop (32 * k) ops) t h ∙ ap instruction (getD-drop (32 * k) ops t noOp)
+
+pub on-clause-end : (code : List Instruction) (t : ℕ) → length code ≤ t → onClause code t ≡ false
+on-clause-end code t h = ap (λ (x : Instruction). eqb (x .number) 11) (List·getD-eq-default code noInstruction {n = t} h)
+
+pub on-clause-at : (n : ℕ) (ops : List Op) (k t : ℕ) → t < n → onClause (codeIn n ops k) t ≡ eqb (getD ops (32 * k + t) noOp .number) 11
+unfolding instruction
+on-clause-at n ops k t h =
+    let l : t < length (codeIn n ops k) = rw (code-length n ops k) h in
+    ap (λ (x : Instruction). eqb (x .number) 11) (getD-in (codeIn n ops k) t noInstruction (instruction noOp) l ∙ code-at n ops k t h)
+
+-- one operand after the other, for a test q of a target
+one-kind : (o : Op) (q : ℕ → Bool) (kind : ℕ) (a t : Bool) → eqb kind 4 ≡ t → ((not (eqb kind 4) || q (operand o kind .number)) && cond (not a) (q (o .target)) true) ≡ cond (not (not (eqb kind 4) && a)) (q (o .target)) true
+unfolding operand
+one-kind o q kind a false e = rw e
+one-kind o q kind a true e = rw (e, ap (λ (k : ℕ). q (operand o k .number)) (eqb-true kind 4 e)) (twice a (q (o .target)))
+  where
+    twice : (a b : Bool) → (b && cond (not a) b true) ≡ b
+    twice a false = refl
+    twice true true = refl
+    twice false true = refl
+
+all-kinds : (o : Op) (q : ℕ → Bool) (ks : List ℕ) → allOf (λ (kind : ℕ). not (eqb kind 4) || q (operand o kind .number)) ks ≡ cond (not (allOf (λ (kind : ℕ). not (eqb kind 4)) ks)) (q (o .target)) true
+all-kinds o q [] = refl
+all-kinds o q (kind ∷ ks) =
+    ap (λ (b : Bool). (not (eqb kind 4) || q (operand o kind .number)) && b) (all-kinds o q ks) ∙ one-kind o q kind (allOf (λ (k : ℕ). not (eqb k 4)) ks) (eqb kind 4) refl
+
+landed : (code : List Instruction) (h : Bool) (t : ℕ) → cond h (not (onClause code t)) true ≡ not (onClause code (cond h t (length code)))
+landed code true t = refl
+landed code false t = rw (on-clause-end code (length code) (omega arith))
+
+target-free : (code : List Instruction) (o : Op) → targetsFree code (instruction o) ≡ not (onClause code (cond (hasTarget (o .number)) (o .target) (length code)))
+unfolding targetsFree instruction hasTarget
+target-free code o =
+    allTwo-map (λ kind x. not (eqb kind 4) || not (onClause code (x .number))) (operand o) (kindsOf (o .number))
+    ∙ all-kinds o (λ t. not (onClause code t)) (kindsOf (o .number))
+    ∙ landed code (hasTarget (o .number)) (o .target)
+
+-- the op at place t leads to no clause
+pub target-at : (n : ℕ) (ops : List Op) (k t to : ℕ) → t < n → to ≡ cond (hasTarget (getD ops (32 * k + t) noOp .number)) (getD ops (32 * k + t) noOp .target) n → targetsFree (codeIn n ops k) (getD (codeIn n ops k) t (instruction noOp)) ≡ not (onClause (codeIn n ops k) to)
+target-at n ops k t to h e =
+    let o = getD ops (32 * k + t) noOp in
+    ap (targetsFree (codeIn n ops k)) (code-at n ops k t h) ∙ target-free (codeIn n ops k) o
+    ∙ ap (λ (m : ℕ). not (onClause (codeIn n ops k) (cond (hasTarget (o .number)) (o .target) m))) (code-length n ops k)
+    ∙ ap (λ (u : ℕ). not (onClause (codeIn n ops k) u)) (sym e)
+
+-- the rules of a behaviour, in the two loops that test them
+split-op : (c n : ℕ) (code : List Instruction) (t : ℕ) (x : Instruction) → (inRange c n x && wellPlaced code t x) ≡ (inRange c n x && placed code t x && targetsFree code x)
+unfolding wellPlaced placed
+split-op c n code t x = sym (and-assoc (inRange c n x) _ (targetsFree code x))
+
+pub code-sound-by : (c n : ℕ) (code : List Instruction) → length code ≡ n → codeSound c code ≡ (leb 1 n && leb n 32 && (opsSound c n code && allOf (targetsFree code) code))
+unfolding codeSound opsSound
+code-sound-by c n code e =
+    let f : ℕ → Instruction → Bool = λ t x. inRange c n x && placed code t x in
+    let g : ℕ → Instruction → Bool = λ t x. targetsFree code x in
+    rw (e, allFrom-same (λ t x. inRange c n x && wellPlaced code t x) (λ t x. f t x && g t x) (split-op c n code) 0 code, allFrom-both f g 0 code, allOf-from (targetsFree code) 0 code)
+
+-- ---- all behaviours
+
+pub codes-length : (c : ℕ) (lens : List ℕ) (ops : List Op) → length (codesIn c lens ops) ≡ c
+unfolding codesIn
+codes-length c lens ops = map-rising-length (λ (b : ℕ). codeIn (getD lens (b - 1) 0) ops (b - 1)) 1 c
+
+pub codes-at : (c : ℕ) (lens : List ℕ) (ops : List Op) (k : ℕ) → k < c → getD (codesIn c lens ops) k [] ≡ codeIn (getD lens k 0) ops k
+unfolding codesIn
+codes-at c lens ops k h =
+    map-rising-at (λ (b : ℕ). codeIn (getD lens (b - 1) 0) ops (b - 1)) 1 c k [] h ∙ ap (λ (j : ℕ). codeIn (getD lens j 0) ops j) (omega arith)

@@ -1,0 +1,39 @@
+-- `due_next` gives `dueNext`. Assumes nothing.
+use Rattle.rules.specs.Behaviours.{instruction}
+use Rattle.behaviours.proofs.Codes.{clause-count}
+use borrow.Author.Needs.{needs}
+use borrow.Author.Tests.{eq-eqb, ne-eqb}
+use mathlib.Core.Path.{sym}
+use native.Mathlib.Omega.{arith}
+use Rattle.behaviours.proofs.due_next.Statement.{statement}
+use Rattle.behaviours.proofs.due_next.Tie as tie
+
+returns : tie.Need-returns
+unfolding instruction
+returns c =
+    let o = c .before .args .op in
+    rw (eq-eqb (o .number) 10 (c .if1 .taken)) (sym (clause-count o (c .if1 .taken)))
+
+sub-result : tie.Need-sub-result
+sub-result c = search needs
+
+returns-2 : tie.Need-returns-2
+unfolding instruction
+returns-2 c =
+    let o = c .before .before .before .args .op in
+    rw (ne-eqb (o .number) 10 (c .before .before .if1 .left), eq-eqb (o .number) 11 (c .before .if2 .taken))
+
+returns-3 : tie.Need-returns-3
+unfolding instruction
+returns-3 c =
+    let o = c .before .before .before .args .op in
+    rw (ne-eqb (o .number) 10 (c .before .before .if1 .left), eq-eqb (o .number) 11 (c .before .if2 .taken)) (omega arith)
+
+returns-4 : tie.Need-returns-4
+unfolding instruction
+returns-4 c =
+    let o = c .before .before .args .op in
+    rw (ne-eqb (o .number) 10 (c .before .if1 .left), ne-eqb (o .number) 11 (c .if2 .left))
+
+pub due-next-spec : {M : Type 1} → statement M
+due-next-spec = tie.close (tie.spec returns sub-result returns-2 returns-3 returns-4)
