@@ -2,13 +2,15 @@
 --   answerOf i e m        the answer that e is for process i with mailbox m: a refusal, or an effect of the rules
 --   runOf code i e st o   the same for a run at op o, where a recv is still to be searched
 --   Says i e p f          effect e says of process p what rule f says
+--   At code len t o       the code has len ops, and op o at place t
 use mathlib.Core.Bool.{true, false, cond}
 use mathlib.Core.List.{List}
 use mathlib.Core.Option.{Option, none, some}
 use mathlib.Core.Path.{_≡_}
-use Prim.Native.Nat.{ℕ}
+use Prim.Native.Nat.{ℕ, _<_}
 use lib.Dec.{eqb}
 use lib.IntN.{ℤ}
+use lib.ListN.{length, getD}
 use Rattle.node.specs.declared.Mailbox.{Mailbox}
 use Rattle.node.specs.declared.Message.the-variants.{Plain}
 use Rattle.node.specs.declared.Op.{Op}
@@ -19,6 +21,7 @@ use Rattle.node.specs.declared.Signal.the-variants.{Link}
 use Rattle.node.specs.declared.Value.{Value}
 use Rattle.node.specs.declared.Value.the-variants.{Int, Atom, Pid}
 use Rattle.node.specs.Mailboxes.{joined}
+use Rattle.node.specs.Nodes.{noOp}
 use Rattle.node.specs.Processes.{fresh}
 use Rattle.node.specs.Values.{intZero, pid}
 use Rattle.rules.specs.Answers.{Answer, refused, done}
@@ -74,3 +77,8 @@ runOf code i e st o = cond (e .receives) (receives code st o) (answerOf i e (st 
 -- whatever its mailbox, effect e says of process p, whose number is i, what rule f says of its state; it does not receive
 abbrev pub Says : ℕ → Effect → Process → (State → Answer effects.Effect) → Type 0
 Says i e p f = (code : List Op) (o : Op) (m : Mailbox) → runOf code i e (stateOf p m) o ≡ f (stateOf p m)
+
+-- the code has len ops, and o stands at place t where t is not its end
+pub record At (code : List Op) (len t : ℕ) (o : Op) : Type 0 where
+  pub size : length code ≡ len
+  pub op : t < length code → getD code t noOp ≡ o

@@ -8,6 +8,7 @@ ghost use lib.IntN.{_+ℤ_};
 ghost use lib.ListN.{length, getD};
 ghost use Rattle.node.specs.declared.Mailbox.{Mailbox};
 ghost use Rattle.node.specs.declared.Op.{Op};
+ghost use Rattle.node.specs.declared.Stage.the-variants.{Live};
 ghost use Rattle.node.specs.declared.Signal.the-variants.{Msg, Exit, Link, Unlink};
 ghost use Rattle.node.specs.declared.Value.the-variants.{Int};
 ghost use Rattle.node.specs.Nodes.{noOp};
@@ -17,7 +18,7 @@ ghost use Rattle.rules.specs.Effects.{becomes, ends, sends};
 ghost use Rattle.rules.specs.Run.{setsRegister, jumpsIf, adds, compares, toProcess, toOther, spawns, runsOp, closes, runsLive, runs};
 ghost use Rattle.rules.specs.Arrive.{joinsWith, notes, exits, takes, arrives};
 ghost use Rattle.rules.specs.Values.{sameValue};
-ghost use Rattle.decisions.specs.Answers.{stateOf, refusesEffect, becomesEffect, sendsEffect, answerOf, runOf, Says, sumOf, integersOf};
+ghost use Rattle.decisions.specs.Answers.{stateOf, refusesEffect, becomesEffect, sendsEffect, answerOf, runOf, Says, At, sumOf, integersOf};
 use node::BehaviourNumber;
 use node::Message;
 use node::Op;
@@ -390,7 +391,7 @@ fn close(p: Process) -> Effect
 
 // A live process whose code has len ops, at op.
 fn run_live(i: ProcessNumber, p: Process, len: u8, op: Op) -> Effect
-    ensures { λ e. ⌜ ((code : List Op) (m : Mailbox) → length code ≡ len → getD code (p .place) noOp ≡ op → runOf code (i .0) e (stateOf p m) op ≡ runsLive code (i .0) (stateOf p m)) ⌝ }
+    ensures { λ e. ⌜ ((code : List Op) (m : Mailbox) → At code len (p .place) op → runOf code (i .0) e (stateOf p m) op ≡ runsLive code (i .0) (stateOf p m)) ⌝ }
 {
     if len <= p.place {
         return Effect::becomes(p.ended(Value::NORMAL));
@@ -400,7 +401,7 @@ fn run_live(i: ProcessNumber, p: Process, len: u8, op: Op) -> Effect
 
 // A run of process i, whose code has len ops and which is at op.
 pub fn run(i: ProcessNumber, p: Process, len: u8, op: Op) -> Effect
-    ensures { λ e. ⌜ ((code : List Op) (m : Mailbox) → length code ≡ len → getD code (p .place) noOp ≡ op → runOf code (i .0) e (stateOf p m) op ≡ runs code (i .0) (stateOf p m)) ⌝ }
+    ensures { λ e. ⌜ ((code : List Op) (m : Mailbox) → (p .stage ≡ Live → At code len (p .place) op) → runOf code (i .0) e (stateOf p m) op ≡ runs code (i .0) (stateOf p m)) ⌝ }
 {
     let stage = p.stage;
     match stage {

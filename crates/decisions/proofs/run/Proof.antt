@@ -37,7 +37,7 @@ returns c =
     let its-refuses = c .refuses in
     let its-args = c .before .before .before .args in
     let its-enum-told = c .before .enum-told in
-    λ code m e q. rw (its-refuses .ensures) (sym (ap (λ (s : Stage). runsIn s code (its-args .i .0) (stateOf (its-args .p) m)) (its-enum-told .given .1)))
+    λ code m q. rw (its-refuses .ensures) (sym (ap (λ (s : Stage). runsIn s code (its-args .i .0) (stateOf (its-args .p) m)) (its-enum-told .given .1)))
 
 returns-2 : tie.Need-returns-2
 unfolding runs
@@ -45,7 +45,7 @@ returns-2 c =
     let its-run-live = c .run-live in
     let its-args = c .before .before .before .args in
     let its-enum-told2 = c .before .enum-told2 in
-    λ code m e q. its-run-live .ensures code m e q ∙ sym (ap (λ (s : Stage). runsIn s code (its-args .i .0) (stateOf (its-args .p) m)) (its-enum-told2 .given .1))
+    λ code m q. its-run-live .ensures code m (q (its-enum-told2 .given .1)) ∙ sym (ap (λ (s : Stage). runsIn s code (its-args .i .0) (stateOf (its-args .p) m)) (its-enum-told2 .given .1))
 
 returns-3 : tie.Need-returns-3
 unfolding runs
@@ -53,7 +53,7 @@ returns-3 c =
     let its-close = c .close in
     let its-args = c .before .before .before .args in
     let its-enum-told3 = c .before .enum-told3 in
-    λ code m e q. its-close .ensures (its-args .i .0) code (its-args .op) m ∙ sym (ap (λ (s : Stage). runsIn s code (its-args .i .0) (stateOf (its-args .p) m)) (its-enum-told3 .given .1))
+    λ code m q. its-close .ensures (its-args .i .0) code (its-args .op) m ∙ sym (ap (λ (s : Stage). runsIn s code (its-args .i .0) (stateOf (its-args .p) m)) (its-enum-told3 .given .1))
 
 returns-4 : tie.Need-returns-4
 unfolding runs
@@ -61,7 +61,7 @@ returns-4 c =
     let its-refuses2 = c .refuses2 in
     let its-args = c .before .before .before .args in
     let its-enum-told4 = c .before .enum-told4 in
-    λ code m e q. rw (its-refuses2 .ensures) (sym (ap (λ (s : Stage). runsIn s code (its-args .i .0) (stateOf (its-args .p) m)) (its-enum-told4 .given .1)))
+    λ code m q. rw (its-refuses2 .ensures) (sym (ap (λ (s : Stage). runsIn s code (its-args .i .0) (stateOf (its-args .p) m)) (its-enum-told4 .given .1)))
 
 pub run-spec : {M : Type 1} → statement M
 run-spec =

@@ -20,7 +20,7 @@ returns c =
     let its-args = c .before .before .before .before .args in
     let its-becomes = c .becomes in
     let its-ended = c .before .ended in
-    λ code m e q. let h : length code ≤ its-args .p .place = omega arith in rw (its-becomes .ensures, its-ended .ensures, le-leb (length code) (its-args .p .place) h)
+    λ code m q. let h : length code ≤ its-args .p .place = omega (arith, q .size) in rw (its-becomes .ensures, its-ended .ensures, le-leb (length code) (its-args .p .place) h)
 
 run-op-requires : tie.Need-run-op-requires
 run-op-requires c κs = search needs
@@ -30,7 +30,7 @@ unfolding runsLive
 returns-2 c =
     let its-args = c .before .before .before .args in
     let its-run-op = c .run-op in
-    λ code m e q. let h : its-args .p .place < length code = omega arith in rw (lt-leb (length code) (its-args .p .place) h, q) (its-run-op .ensures code m)
+    λ code m q. let h : its-args .p .place < length code = omega (arith, q .size) in rw (lt-leb (length code) (its-args .p .place) h, q .op h) (its-run-op .ensures code m)
 
 pub run-live-spec : {M : Type 1} → statement M
 run-live-spec =
