@@ -803,3 +803,40 @@ emptied-sound codes i p m b h = go (p .stage) refl h
     go Live e g = subst (λ (s : Stage). So (standingSound codes i (standingIn s p (emptied b)))) e (alive-sound codes i p (emptied b) (mailed-alive codes i p m (alive codes i p m e h) (emptied b) (emptied-mailed b)))
     go Closing e g = g
     go Gone e g = refl
+
+-- ---- where a live process stands
+
+-- its behaviour is one that the node has
+pub live-within : (codes : List (List Instruction)) (i : ℕ) (p : Process) (m : Mailbox) → p .stage ≡ Live → So (standingSound codes i (standing p m)) → So (leb 1 (p .behaviour .0) && leb (p .behaviour .0) (length codes))
+live-within codes i p m e h = alive codes i p m e h .placed .known
+
+-- the code of a behaviour that the node has passes the plan's rules
+pub code-passes : (codes : List (List Instruction)) (b : ℕ) (ops : List Op) → So (leb 1 b && leb b (length codes)) → codeOf codes b ≡ map instruction ops → So (allOf (codeSound (length codes)) codes) → So (codeSound (length codes) (map instruction ops))
+code-passes codes b ops known same sounds =
+    let w = parts (leb 1 b) (leb b (length codes)) known in
+    let x = leb-true 1 b (w .0) in
+    let y = leb-true b (length codes) (w .1) in
+    rw same at (allOf-at (codeSound (length codes)) [] codes sounds (b - 1) (omega arith))
+
+-- the code of a behaviour that the node has is of at most 32 ops
+pub code-size : (codes : List (List Instruction)) (b : ℕ) (ops : List Op) → So (leb 1 b && leb b (length codes)) → codeOf codes b ≡ map instruction ops → So (allOf (codeSound (length codes)) codes) → length ops ≤ 32
+unfolding codeSound
+code-size codes b ops known same sounds =
+    let whole = map instruction ops in
+    let f : ℕ → Instruction → Bool = λ t x. inRange (length codes) (length whole) x && wellPlaced whole t x in
+    let h = code-passes codes b ops known same sounds in
+    let v = parts (leb 1 (length whole) && leb (length whole) 32) (allFrom f 0 whole) h in
+    rw (length-map ops instruction) at (leb-true (length whole) 32 (parts (leb 1 (length whole)) (leb (length whole) 32) (v .0) .1))
+
+-- a recv has at most 8 clauses, and they stand behind it
+pub recv-clauses : (c : ℕ) (ops : List Op) → So (codeSound c (map instruction ops)) → (t : ℕ) → t < length ops → getD ops t noOp .number ≡ 10 → (getD ops t noOp .small ≤ 8) × (t + 1 + getD ops t noOp .small ≤ length ops)
+unfolding hasClauses instruction kindsOf operand operandInRange
+recv-clauses c ops checked t inside e =
+    let o = getD ops t noOp in
+    let whole = map instruction ops in
+    let r : So (leb 1 (o .small) && leb (o .small) 8) = in-range c ops checked t inside 10 0 e (omega arith) in
+    let w : So (not (isRecv (instruction o)) || hasClauses (clauseCount (instruction o)) (drop (t + 1) whole)) = facts c ops checked t inside .1 .recv in
+    let u : So (hasClauses (o .small) (drop (t + 1) whole)) = subst (λ (k : ℕ). So (not (eqb k 10) || hasClauses (getD (map (operand o) (kindsOf k)) 0 (numeric 0) .number) (drop (t + 1) whole))) e w in
+    let v = leb-true (o .small) (length (drop (t + 1) whole)) (parts (leb (o .small) (length (drop (t + 1) whole))) (allOf isClause (take (o .small) (drop (t + 1) whole))) u .0) in
+    let l : length (drop (t + 1) whole) ≡ length ops - (t + 1) = simp (length-drop, length-map) in
+    (leb-true (o .small) 8 (parts (leb 1 (o .small)) (leb (o .small) 8) r .1), omega arith)

@@ -7,6 +7,7 @@ pub mod Kept
 pub mod Trace
 pub mod Commute
 pub mod Order
+pub mod Paths
 pub mod Suggest
 pub mod Sample
 pub mod Ramp

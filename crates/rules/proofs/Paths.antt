@@ -1,0 +1,134 @@
+-- One law for each way that a step can go: the refusal that it meets, or what the commit of its effect stores. Code that decides on
+-- small values and stores in place cites these. Assumes nothing.
+use mathlib.Core.Bool.{false, So, _&&_}
+use mathlib.Core.Option.{none, some}
+use mathlib.Core.Path.{_≡_, refl, _∙_}
+use mathlib.Core.List.{List}
+use Prim.Native.Nat.{ℕ, _+_, _-_, _*_, _≤_, _<_}
+use native.Mathlib.Omega.{arith}
+use borrow.Author.Tests.{leb-true}
+use lib.Dec.{leb}
+use lib.ListN.{length, getD, set, drop}
+use lib.Seq.{set-getD, getD-drop}
+use Rattle.node.specs.declared.Mailbox.{Mailbox}
+use Rattle.node.specs.declared.Node.{Node}
+use Rattle.node.specs.declared.Process.{Process}
+use Rattle.node.specs.declared.Row.{Row}
+use Rattle.node.specs.declared.Signal.{Signal}
+use Rattle.node.specs.declared.Stage.the-variants.{Live}
+use Rattle.node.specs.Mailboxes.{emptied}
+use Rattle.node.specs.Nodes.{noOp, noMailbox, pair}
+use Rattle.node.specs.Rows.{pushed, popped}
+use Rattle.node.proofs.Lists.{firsts-length, firsts-getD}
+use Rattle.rules.specs.Answers.{refused, done}
+use Rattle.rules.specs.Effects.{Effect}
+use Rattle.rules.specs.Nodes.{behavioursOf, code, process, mailbox, row}
+use Rattle.rules.specs.Steps.{Action, run, arrive, owner, at, commit, numbered, ownerBorn, signalWaits, pairHasRoom, numberFree, decide, ready, rule}
+use Rattle.rules.specs.Values.{isNumber}
+use Rattle.rules.proofs.All.{parts}
+use Rattle.rules.proofs.Keep.{live-within, code-passes, code-size, recv-clauses}
+use Rattle.rules.proofs.Kept.{Parts, code-of}
+
+-- ---- refusals
+
+module _ (n : Node) (a : Action) where
+  pub rule-20 : numbered a ≡ false → rule n a ≡ refused 20
+  unfolding rule ready
+  rule-20 h = rw h
+
+  module _ (numbers : So (numbered a)) where
+    pub rule-21 : ownerBorn n a ≡ false → rule n a ≡ refused 21
+    unfolding rule ready
+    rule-21 h = rw (numbers, h)
+
+    module _ (awake : So (ownerBorn n a)) where
+      pub rule-23 : signalWaits n a ≡ false → rule n a ≡ refused 23
+      unfolding rule ready
+      rule-23 h = rw (numbers, awake, h)
+
+      module _ (waits : So (signalWaits n a)) where
+        -- 22, 24 or 25
+        pub rule-undecided : (k : ℕ) → decide n a ≡ refused k → rule n a ≡ refused k
+        unfolding rule ready
+        rule-undecided k h = rw (numbers, awake, waits, h)
+
+        pub rule-26 : (e : Effect) → decide n a ≡ done e → pairHasRoom n (owner a) (e .sent) ≡ false → rule n a ≡ refused 26
+        unfolding rule ready
+        rule-26 e h f = rw (numbers, awake, waits, h, f)
+
+        pub rule-27 : (e : Effect) → decide n a ≡ done e → So (pairHasRoom n (owner a) (e .sent)) → numberFree n (e .born) ≡ false → rule n a ≡ refused 27
+        unfolding rule ready
+        rule-27 e h r f = rw (numbers, awake, waits, h, r, f)
+
+        pub rule-done : (e : Effect) → decide n a ≡ done e → So (pairHasRoom n (owner a) (e .sent)) → So (numberFree n (e .born)) → rule n a ≡ done (commit n a e)
+        unfolding rule ready
+        rule-done e h r f = rw (numbers, awake, waits, h, r, f)
+
+-- ---- what a commit stores
+
+-- the node with these processes, mailboxes and rows
+abbrev pub stored : Node → List Process → List Mailbox → List Row → Node
+stored n ps ms rs = record { count = n .count; lens = n .lens; ops = n .ops; processes = ps; mail = ms; flight = rs }
+
+module _ (n : Node) (i : ℕ) (p : Process) where
+  -- the owner's mailbox is as it was
+  mail-kept : set (n .mail) (i - 1) (mailbox n i) ≡ n .mail
+  mail-kept = set-getD (n .mail) (i - 1) noMailbox
+
+  pub commit-plain : commit n (run i) (record { process = p; mail = mailbox n i; sent = none; born = none }) ≡ stored n (set (n .processes) (i - 1) p) (n .mail) (n .flight)
+  unfolding commit
+  commit-plain = rw mail-kept
+
+  pub commit-received : (m : Mailbox) → commit n (run i) (record { process = p; mail = m; sent = none; born = none }) ≡ stored n (set (n .processes) (i - 1) p) (set (n .mail) (i - 1) m) (n .flight)
+  unfolding commit
+  commit-received m = refl
+
+  pub commit-sent : (j : ℕ) (x : Signal) → commit n (run i) (record { process = p; mail = mailbox n i; sent = some (record { to = j; signal = x }); born = none }) ≡ stored n (set (n .processes) (i - 1) p) (n .mail) (set (n .flight) (pair i j) (pushed (row n i j) x))
+  unfolding commit at
+  commit-sent j x = rw mail-kept
+
+  pub commit-born : (q : ℕ) (child : Process) → commit n (run i) (record { process = p; mail = mailbox n i; sent = none; born = some (record { number = q; process = child }) }) ≡ stored n (set (set (n .processes) (i - 1) p) (q - 1) child) (set (n .mail) (q - 1) (emptied (mailbox n q))) (n .flight)
+  unfolding commit at
+  commit-born q child = rw mail-kept
+
+  pub commit-dropped : (j : ℕ) → commit n (arrive i j) (record { process = p; mail = mailbox n i; sent = none; born = none }) ≡ stored n (set (n .processes) (i - 1) p) (n .mail) (set (n .flight) (pair j i) (popped (row n j i)))
+  unfolding commit at
+  commit-dropped j = rw mail-kept
+
+  pub commit-joined : (j : ℕ) (m : Mailbox) → commit n (arrive i j) (record { process = p; mail = m; sent = none; born = none }) ≡ stored n (set (n .processes) (i - 1) p) (set (n .mail) (i - 1) m) (set (n .flight) (pair j i) (popped (row n j i)))
+  unfolding commit at
+  commit-joined j m = refl
+
+-- ---- where a live process stands in its code
+
+module _ (n : Node) (p : Parts n) (i : ℕ) (number : So (isNumber i)) (live : process n i .stage ≡ Live) where
+  abbrev b : ℕ
+  b = process n i .behaviour .0
+
+  within : So (leb 1 b && leb b (length (behavioursOf n)))
+  within = live-within (behavioursOf n) i (process n i) (mailbox n i) live (p .processes i number)
+
+  -- its behaviour is one of eight
+  pub behaviour-bounds : (1 ≤ b) × (b ≤ 8)
+  behaviour-bounds =
+      let w = parts (leb 1 b) (leb b (length (behavioursOf n))) within in
+      let x = leb-true 1 b (w .0) in
+      let y = leb-true b (length (behavioursOf n)) (w .1) in
+      let z = leb-true (length (behavioursOf n)) 8 (parts (leb 1 (length (behavioursOf n))) (leb (length (behavioursOf n)) 8) (p .few) .1) in
+      (x, omega arith)
+
+  pub code-length : length (code n b) ≡ getD (n .lens) (b - 1) 0
+  unfolding code
+  code-length = firsts-length noOp (getD (n .lens) (b - 1) 0) (drop (32 * (b - 1)) (n .ops))
+
+  -- its code has at most 32 ops
+  pub code-bound : length (code n b) ≤ 32
+  code-bound = code-size (behavioursOf n) b (code n b) within (code-of n b within) (p .codes)
+
+  pub code-at : (t : ℕ) → t < length (code n b) → getD (code n b) t noOp ≡ getD (n .ops) (32 * (b - 1) + t) noOp
+  unfolding code
+  code-at t h = firsts-getD noOp (getD (n .lens) (b - 1) 0) (drop (32 * (b - 1)) (n .ops)) t (rw code-length at h) ∙ getD-drop (32 * (b - 1)) (n .ops) t noOp
+
+  -- where it is at a recv, at most 8 clauses follow
+  pub recv-bounds : process n i .place < length (code n b) → getD (code n b) (process n i .place) noOp .number ≡ 10 → (getD (code n b) (process n i .place) noOp .small ≤ 8) × (process n i .place + 1 + getD (code n b) (process n i .place) noOp .small ≤ length (code n b))
+  recv-bounds h e = recv-clauses (length (behavioursOf n)) (code n b) (code-passes (behavioursOf n) b (code n b) within (code-of n b within) (p .codes)) (process n i .place) h e
