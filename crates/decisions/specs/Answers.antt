@@ -1,6 +1,6 @@
 -- What the answers of this crate mean in the rules of document 01.
---   answerOf i e m        the answer that e is for process i with mailbox m: a refusal, or an effect of the rules
---   runOf code i e st o   the same for a run at op o, where a recv is still to be searched
+--   runOf code i e st o   the answer that e is for a run of process i at op o: a refusal, or an effect of the rules
+--   arrivalOf e m         the same for an arrival at a process with mailbox m
 --   Says i e p f          effect e says of process p what rule f says
 --   At code len t o       the code has len ops, and op o at place t
 use mathlib.Core.Bool.{true, false, cond}
@@ -65,14 +65,18 @@ sentOf e = cond (e .sends) (some (record { to = e .to .0; signal = e .signal }))
 abbrev pub bornOf : ℕ → Effect → Option Birth
 bornOf i e = cond (e .spawns) (some (record { number = e .number .0; process = fresh (e .behaviour) (pid i) })) none
 
-abbrev pub effectOf : ℕ → Effect → Mailbox → effects.Effect
-effectOf i e m = record { process = e .process; mail = cond (e .joins) (joined m (e .message)) m; sent = sentOf e; born = bornOf i e }
-
-abbrev pub answerOf : ℕ → Effect → Mailbox → Answer effects.Effect
-answerOf i e m = cond (eqb (e .refusal) 0) (done (effectOf i e m)) (refused (e .refusal))
-
+-- a run touches no mailbox, but for a recv, which is still to be searched
 abbrev pub runOf : List Op → ℕ → Effect → State → Op → Answer effects.Effect
-runOf code i e st o = cond (e .receives) (receives code st o) (answerOf i e (st .mail))
+runOf code i e st o =
+    cond (e .receives) (receives code st o)
+    (cond (eqb (e .refusal) 0) (done (record { process = e .process; mail = st .mail; sent = sentOf e; born = bornOf i e }))
+    (refused (e .refusal)))
+
+-- an arrival sends nothing and brings nobody to life
+abbrev pub arrivalOf : Effect → Mailbox → Answer effects.Effect
+arrivalOf e m =
+    cond (eqb (e .refusal) 0) (done (record { process = e .process; mail = cond (e .joins) (joined m (e .message)) m; sent = none; born = none }))
+    (refused (e .refusal))
 
 -- whatever its mailbox, effect e says of process p, whose number is i, what rule f says of its state; it does not receive
 abbrev pub Says : ℕ → Effect → Process → (State → Answer effects.Effect) → Type 0

@@ -18,7 +18,7 @@ ghost use Rattle.rules.specs.Effects.{becomes, ends, sends};
 ghost use Rattle.rules.specs.Run.{setsRegister, jumpsIf, adds, compares, toProcess, toOther, spawns, runsOp, closes, runsLive, runs};
 ghost use Rattle.rules.specs.Arrive.{joinsWith, notes, exits, takes, arrives};
 ghost use Rattle.rules.specs.Values.{sameValue};
-ghost use Rattle.decisions.specs.Answers.{stateOf, refusesEffect, becomesEffect, sendsEffect, answerOf, runOf, Says, At, sumOf, integersOf};
+ghost use Rattle.decisions.specs.Answers.{stateOf, refusesEffect, becomesEffect, sendsEffect, runOf, arrivalOf, Says, At, sumOf, integersOf};
 use node::BehaviourNumber;
 use node::Message;
 use node::Op;
@@ -425,7 +425,7 @@ fn both(a: bool, b: bool) -> bool
 
 // Message x joins a mailbox of count messages.
 fn join(p: Process, count: u8, x: Message) -> Effect
-    ensures { λ e. ⌜ ((i : ℕ) (q : Process) (m : Mailbox) → m .count ≡ count → answerOf i e m ≡ joinsWith (stateOf q m) p x) ⌝ }
+    ensures { λ e. ⌜ ((q : Process) (m : Mailbox) → m .count ≡ count → arrivalOf e m ≡ joinsWith (stateOf q m) p x) ⌝ }
 {
     if 16 <= count {
         return Effect::refuses(p, 24);
@@ -447,7 +447,7 @@ fn join(p: Process, count: u8, x: Message) -> Effect
 
 // A note of j's end joins; if it came along the link, the link is over.
 fn note(j: ProcessNumber, p: Process, count: u8, v: Value, b: bool) -> Effect
-    ensures { λ e. ⌜ ((i : ℕ) (m : Mailbox) → m .count ≡ count → answerOf i e m ≡ notes (j .0) (stateOf p m) v b) ⌝ }
+    ensures { λ e. ⌜ ((m : Mailbox) → m .count ≡ count → arrivalOf e m ≡ notes (j .0) (stateOf p m) v b) ⌝ }
 {
     if b {
         return join(p.unlinked(j), count, Message::Note(j, v));
@@ -457,7 +457,7 @@ fn note(j: ProcessNumber, p: Process, count: u8, v: Value, b: bool) -> Effect
 
 // An exit signal from j: the first of document 01's five lines that applies.
 fn exit(i: ProcessNumber, j: ProcessNumber, p: Process, count: u8, v: Value, b: bool) -> Effect
-    ensures { λ e. ⌜ ((m : Mailbox) → m .count ≡ count → answerOf (i .0) e m ≡ exits (i .0) (j .0) (stateOf p m) v b) ⌝ }
+    ensures { λ e. ⌜ ((m : Mailbox) → m .count ≡ count → arrivalOf e m ≡ exits (i .0) (j .0) (stateOf p m) v b) ⌝ }
 {
     let linked = p.links_to(j);
     if both(b, !linked) {
@@ -481,7 +481,7 @@ fn exit(i: ProcessNumber, j: ProcessNumber, p: Process, count: u8, v: Value, b: 
 
 // What a live process does with a signal from j.
 fn take(i: ProcessNumber, j: ProcessNumber, p: Process, count: u8, x: Signal) -> Effect
-    ensures { λ e. ⌜ ((m : Mailbox) → m .count ≡ count → answerOf (i .0) e m ≡ takes (i .0) (j .0) (stateOf p m) x) ⌝ }
+    ensures { λ e. ⌜ ((m : Mailbox) → m .count ≡ count → arrivalOf e m ≡ takes (i .0) (j .0) (stateOf p m) x) ⌝ }
 {
     match x {
         Signal::Msg(v) => join(p, count, Message::Plain(v)),
@@ -493,7 +493,7 @@ fn take(i: ProcessNumber, j: ProcessNumber, p: Process, count: u8, x: Signal) ->
 
 // The arrival at process i, whose mailbox has count messages, of signal x from j.
 pub fn arrive(i: ProcessNumber, j: ProcessNumber, p: Process, count: u8, x: Signal) -> Effect
-    ensures { λ e. ⌜ ((m : Mailbox) → m .count ≡ count → answerOf (i .0) e m ≡ arrives (i .0) (j .0) (stateOf p m) x) ⌝ }
+    ensures { λ e. ⌜ ((m : Mailbox) → m .count ≡ count → arrivalOf e m ≡ arrives (i .0) (j .0) (stateOf p m) x) ⌝ }
 {
     let stage = p.stage;
     match stage {

@@ -63,7 +63,7 @@ returns-3 c =
     let its-both2 = c .before .before .before .both2 in
     let its-if2 = c .before .before .if2 in
     let its-if3 = c .before .if3 in
-    λ m e. its-note .ensures (its-args .i .0) m e ∙ rw (← its-links-to .ensures, ← its-both .ensures, its-if1 .left, ← its-same-value .ensures, ← its-both2 .ensures, its-if2 .left, its-if3 .taken)
+    λ m e. its-note .ensures m e ∙ rw (← its-links-to .ensures, ← its-both .ensures, its-if1 .left, ← its-same-value .ensures, ← its-both2 .ensures, its-if2 .left, its-if3 .taken)
 
 same-value-requires-2 : tie.Need-same-value-requires-2
 same-value-requires-2 c κs = search needs

@@ -12,10 +12,10 @@ refuses-requires c κs = search needs
 returns : tie.Need-returns
 returns c =
     let its-refuses = c .refuses in
-    λ i q m e. let h : 16 ≤ m .count = omega arith in rw (its-refuses .ensures, le-ltb (m .count) 16 h)
+    λ q m e. let h : 16 ≤ m .count = omega arith in rw (its-refuses .ensures, le-ltb (m .count) 16 h)
 
 returns-2 : tie.Need-returns-2
-returns-2 c = λ i q m e. let h : m .count < 16 = omega arith in rw (lt-ltb (m .count) 16 h)
+returns-2 c = λ q m e. let h : m .count < 16 = omega arith in rw (lt-ltb (m .count) 16 h)
 
 pub join-spec : {M : Type 1} → statement M
 join-spec = tie.close (tie.spec refuses-requires returns returns-2)

@@ -16,7 +16,7 @@ returns c =
     let its-args = c .before .before .before .args in
     let its-if1 = c .before .before .if1 in
     let its-unlinked = c .before .unlinked in
-    λ i m e. its-join .ensures i (its-args .p) m e ∙ rw (its-if1 .taken, its-unlinked .ensures)
+    λ m e. its-join .ensures (its-args .p) m e ∙ rw (its-if1 .taken, its-unlinked .ensures)
 
 join-requires-2 : tie.Need-join-requires-2
 join-requires-2 c κs = search needs
@@ -26,7 +26,7 @@ returns-2 c =
     let its-join2 = c .join2 in
     let its-args = c .before .before .args in
     let its-if1 = c .before .if1 in
-    λ i m e. its-join2 .ensures i (its-args .p) m e ∙ rw (its-if1 .left)
+    λ m e. its-join2 .ensures (its-args .p) m e ∙ rw (its-if1 .left)
 
 pub note-spec : {M : Type 1} → statement M
 note-spec = tie.close (tie.spec unlinked-requires join-requires returns join-requires-2 returns-2)

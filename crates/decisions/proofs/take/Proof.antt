@@ -39,7 +39,7 @@ returns c =
     let its-join = c .join in
     let its-args = c .before .before .before .before .args in
     let its-x = c .before .before .x in
-    λ m e. its-join .ensures (its-args .i .0) (its-args .p) m e ∙ rw (its-x .given .1)
+    λ m e. its-join .ensures (its-args .p) m e ∙ rw (its-x .given .1)
 
 returns-2 : tie.Need-returns-2
 returns-2 c =
