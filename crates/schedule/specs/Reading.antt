@@ -1,0 +1,94 @@
+-- Steps text (document 01: "Steps: `run=i`, `arrive=i,j`, numbers 0 to 255 (any other: 15); empty text is no steps").
+--   malformedLine        document 01's number for a malformed line
+--   byteOf l             l read as a number of 0 to 255
+--   packedOf kind i j    the step of a kind, 0 run or 1 arrive, as one number, where both numbers were read
+--   arrivalOf fields     what follows `arrive=`: two fields
+--   stepOf line          what a line is, without its byte 10: a step or malformed
+--   unended rest         what a last line without byte 10 is, whatever it holds
+--   readLines ls         what each line of a text is
+--   firstMalformed n ls  the number of the first malformed line, where the first line has number n; 0 where none is
+--   stepsOf ls           the steps among lines
+--   refusedText k line   the answer with refusal k: no steps
+--   acceptedSteps steps  the answer without one
+--   ofLines ls           the answer for a text with these lines
+--   scheduleOf text      the answer for a text
+use mathlib.Core.Bool.{_&&_, cond}
+use mathlib.Core.List.{List, [], _∷_, _++_, map}
+use Prim.Native.Nat.{ℕ, _+_, _*_}
+use lib.Dec.{eqb, ltb}
+use lib.ListN.{length, getD, drop, replicate}
+use Rattle.node.specs.Lists.{firsts}
+use Rattle.rules.specs.Answers.{tooLong}
+use Rattle.text.specs.declared.Ranged.{Ranged}
+use Rattle.text.specs.Numbers.{numberOf, rangedOf}
+use Rattle.text.specs.Parts.{Lines, linesOf, fieldsOf, startsWith}
+use Rattle.schedule.specs.declared.Line.{Line}
+use Rattle.schedule.specs.declared.Line.the-variants.{Malformed, Step}
+use Rattle.schedule.specs.declared.Schedule.{Schedule}
+
+abbrev pub malformedLine : ℕ
+malformedLine = 15
+
+-- ---- a line
+
+abbrev pub byteOf : List ℕ → Ranged
+byteOf l = rangedOf (numberOf l) 0 255
+
+-- a step as one number has its kind above its owner above its from
+unfoldable pub packedOf : ℕ → Ranged → Ranged → Line
+packedOf kind i j = cond (eqb (i .refusal) 0 && eqb (j .refusal) 0) (Step (kind * 65536 + i .number * 256 + j .number)) Malformed
+
+unfoldable pub arrivalOf : List (List ℕ) → Line
+arrivalOf fields = cond (eqb (length fields) 2) (packedOf 1 (byteOf (getD fields 0 [])) (byteOf (getD fields 1 []))) Malformed
+
+abbrev pub runKey : List ℕ
+runKey = 114 ∷ 117 ∷ 110 ∷ 61 ∷ []  -- run=
+
+abbrev pub arriveKey : List ℕ
+arriveKey = 97 ∷ 114 ∷ 114 ∷ 105 ∷ 118 ∷ 101 ∷ 61 ∷ []  -- arrive=
+
+-- the from of a run is 0
+unfoldable pub stepOf : List ℕ → Line
+stepOf line =
+    cond (startsWith runKey line) (packedOf 0 (byteOf (drop 4 line)) (record { refusal = 0; number = 0 }))
+    (cond (startsWith arriveKey line) (arrivalOf (fieldsOf (drop 7 line)))
+    Malformed)
+
+-- ---- the lines of a text
+
+-- "each ended by byte 10; a last line without it is .. in steps 15"
+abbrev pub unended : List ℕ → List Line
+unended [] = []
+unended (b ∷ l) = Malformed ∷ []
+
+unfoldable pub readLines : Lines → List Line
+readLines ls = map stepOf (ls .whole) ++ unended (ls .rest)
+
+unfoldable pub firstMalformed : ℕ → List Line → ℕ
+firstMalformed n [] = 0
+firstMalformed n (Malformed ∷ ls) = n
+firstMalformed n (Step s ∷ ls) = firstMalformed (n + 1) ls
+
+unfoldable pub stepsOf : List Line → List ℕ
+stepsOf [] = []
+stepsOf (Malformed ∷ ls) = stepsOf ls
+stepsOf (Step s ∷ ls) = s ∷ stepsOf ls
+
+-- ---- the answer
+
+unfoldable pub refusedText : ℕ → ℕ → Schedule
+refusedText k line = record { number = k; line = line; count = 0; steps = replicate 4096 0 }
+
+unfoldable pub acceptedSteps : List ℕ → Schedule
+acceptedSteps steps = record { number = 0; line = 0; count = length steps; steps = firsts 0 4096 steps }
+
+-- "else 15 malformed line, the first told; if none, 32 with line 0 for over 4,096 lines; each gives no steps"
+unfoldable pub ofLines : List Line → Schedule
+ofLines ls =
+    cond (ltb 0 (firstMalformed 1 ls)) (refusedText malformedLine (firstMalformed 1 ls))
+    (cond (ltb 4096 (length ls)) (refusedText tooLong 0)
+    (acceptedSteps (stepsOf ls)))
+
+-- "32 with line 0 for text above 61,440 bytes"
+unfoldable pub scheduleOf : List ℕ → Schedule
+scheduleOf text = cond (ltb 61440 (length text)) (refusedText tooLong 0) (ofLines (readLines (linesOf text)))

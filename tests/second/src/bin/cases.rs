@@ -1,0 +1,24 @@
+//! Writes case number K of seed S as plan.txt and steps.txt into a folder: `cases S K FOLDER`.
+
+use std::path::Path;
+
+fn main() {
+    let arguments: Vec<String> = std::env::args().skip(1).collect();
+    if let Err(error) = write_case(&arguments) {
+        eprintln!("cases: {error}");
+        std::process::exit(1);
+    }
+}
+
+fn write_case(arguments: &[String]) -> Result<(), String> {
+    let [seed, k, folder] = arguments else {
+        return Err("usage: cases SEED NUMBER FOLDER".to_string());
+    };
+    let seed: u64 = seed.parse().map_err(|_| format!("no seed: {seed}"))?;
+    let k: u64 = k.parse().map_err(|_| format!("no case number: {k}"))?;
+    let (plan, steps) = second::case(seed, k);
+    let folder = Path::new(folder);
+    std::fs::create_dir_all(folder).map_err(|error| error.to_string())?;
+    std::fs::write(folder.join("plan.txt"), plan).map_err(|error| error.to_string())?;
+    std::fs::write(folder.join("steps.txt"), steps).map_err(|error| error.to_string())
+}

@@ -1,0 +1,29 @@
+//! Runs the first COUNT checks of demand 3 of a seed: `reorder SEED COUNT`.
+
+use second::reorder;
+
+fn main() {
+    let numbers: Vec<u64> = std::env::args()
+        .skip(1)
+        .filter_map(|argument| argument.parse().ok())
+        .collect();
+    let [seed, count] = numbers[..] else {
+        eprintln!("usage: reorder SEED COUNT");
+        std::process::exit(1);
+    };
+    let (mut steps, mut differs, mut skipped) = (0, 0, 0);
+    for k in 0..count {
+        match reorder::check(seed, k) {
+            Ok(report) => {
+                steps += report.steps;
+                differs += usize::from(report.differs);
+                skipped += report.skipped;
+            }
+            Err(error) => {
+                println!("check {k} of seed {seed} failed: {error}");
+                std::process::exit(1);
+            }
+        }
+    }
+    println!("checks {count}, in another order {differs}, steps {steps}, refused steps skipped {skipped}");
+}

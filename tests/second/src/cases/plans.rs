@@ -1,0 +1,932 @@
+//! Valid plans: behaviours made of short runs of ops that make processes act on one another.
+
+use crate::node::{Clause, Op, Pattern, Value};
+use crate::plan::op_text;
+use crate::random::Random;
+
+/// What a plan is rich in.
+#[derive(Clone, Copy, Debug, PartialEq, Eq)]
+pub enum Theme {
+    Mixed,
+    /// Loops of send and exit, so that mailboxes and pairs become full.
+    Flood,
+    Links,
+    Exits,
+    Receive,
+    Spawns,
+    Arithmetic,
+    /// A process that links and unlinks another one, which sends a row of messages and ends.
+    Race,
+    /// The same with a full mailbox: the other one ends just after the unlink.
+    FullRace,
+}
+
+const THEMES: [Theme; 9] = [
+    Theme::Mixed,
+    Theme::Flood,
+    Theme::Links,
+    Theme::Exits,
+    Theme::Receive,
+    Theme::Spawns,
+    Theme::Arithmetic,
+    Theme::Race,
+    Theme::FullRace,
+];
+
+pub fn any_theme(random: &mut Random) -> Theme {
+    *random.pick(&THEMES)
+}
+
+/// A plan before it is text.
+#[derive(Clone, Debug)]
+pub struct Draft {
+    pub behaviours: Vec<Vec<Op>>,
+    /// Process and behaviour, by rising process.
+    pub starts: Vec<(u8, u8)>,
+}
+
+impl Draft {
+    /// The lines of the plan, without byte 10.
+    pub fn lines(&self) -> Vec<String> {
+        let mut lines = vec!["plan=1".to_string()];
+        lines.push(format!("behaviours={}", self.behaviours.len()));
+        for code in &self.behaviours {
+            lines.push(format!("code={}", code.len()));
+            lines.extend(code.iter().map(|&op| format!("op={}", op_text(op))));
+        }
+        lines.push(format!("starts={}", self.starts.len()));
+        for (process, behaviour) in &self.starts {
+            lines.push(format!("start={process},{behaviour}"));
+        }
+        lines
+    }
+
+    pub fn text(&self) -> Vec<u8> {
+        let mut text = self.lines().join("\n");
+        text.push('\n');
+        text.into_bytes()
+    }
+
+    /// The number of the line of a behaviour's op, both counted from 0.
+    pub fn line_of(&self, behaviour: usize, place: usize) -> usize {
+        let before: usize = self.behaviours[..behaviour]
+            .iter()
+            .map(|code| code.len() + 1)
+            .sum();
+        2 + before + 1 + place + 1
+    }
+}
+
+/// A target that is chosen when the whole code is known.
+const ANYWHERE: usize = usize::MAX;
+/// The largest N.
+const LONGEST: usize = 32;
+
+/// A valid plan.
+pub fn draft(random: &mut Random, theme: Theme) -> Draft {
+    let count = match theme {
+        Theme::Race | Theme::FullRace => 3,
+        Theme::Receive => random.between(2, 3),
+        _ => random.weighted(&[0, 2, 4, 4, 3, 2, 1, 1, 1]),
+    };
+    let population = population(random, theme);
+    let behaviours = (0..count)
+        .map(|index| code(random, theme, index, count, &population))
+        .collect();
+    let starts = match theme {
+        Theme::Race | Theme::FullRace => race_starts(random, &population),
+        _ => starts(random, theme, count, &population),
+    };
+    Draft { behaviours, starts }
+}
+
+/// The first process of the population watches, the second crashes, the others do the third
+/// behaviour.
+fn race_starts(random: &mut Random, population: &[u8]) -> Vec<(u8, u8)> {
+    let mut starts = vec![(population[0], 1), (population[1], 2)];
+    for &process in &population[2..] {
+        if random.chance(50) {
+            starts.push((process, 3));
+        }
+    }
+    starts.sort_unstable();
+    starts
+}
+
+/// A plan whose first process accepts `run=1` for ever.
+pub fn endless_draft(random: &mut Random) -> Draft {
+    let mut code = vec![Op::Jump(0)];
+    if random.chance(50) {
+        let zero = Value::Int(0);
+        code = vec![Op::Set(1, zero), Op::Same(1, zero, 0), Op::Stop(1)];
+    }
+    Draft {
+        behaviours: vec![code],
+        starts: vec![(1, 1)],
+    }
+}
+
+/// The process numbers that the plan mostly names, so that its processes meet.
+fn population(random: &mut Random, theme: Theme) -> Vec<u8> {
+    let size = match theme {
+        Theme::Spawns => random.between(4, 9),
+        _ => random.between(2, 5),
+    };
+    let mut population = Vec::new();
+    while population.len() < size {
+        let process = random.between(1, 16) as u8;
+        if !population.contains(&process) {
+            population.push(process);
+        }
+    }
+    population
+}
+
+fn starts(random: &mut Random, theme: Theme, count: usize, population: &[u8]) -> Vec<(u8, u8)> {
+    let (member, stranger) = match theme {
+        Theme::Spawns => (30, 1),
+        Theme::Receive => (95, 1),
+        _ => (80, 5),
+    };
+    let mut starts = Vec::new();
+    for process in 1..=16 {
+        let percent = if population.contains(&process) {
+            member
+        } else {
+            stranger
+        };
+        if random.chance(percent) {
+            starts.push((process, random.between(1, count) as u8));
+        }
+    }
+    if starts.is_empty() {
+        starts.push((population[0], 1));
+    }
+    starts
+}
+
+/// A short run of ops that belong together; the method of the same name writes it.
+#[derive(Clone, Copy, Debug, PartialEq, Eq)]
+enum Part {
+    Sends,
+    Flood,
+    Exits,
+    Links,
+    Unlinks,
+    Trap,
+    Spawn,
+    Sum,
+    Receive,
+    Branch,
+    Plain,
+    Stop,
+    FullPair,
+    LinkAndUnlink,
+    Serve,
+    Crash,
+    SendRow,
+    Select,
+}
+
+// How likely each part is under a theme.
+const MIXED_PARTS: &[(Part, usize)] = &[
+    (Part::Sends, 6),
+    (Part::Flood, 2),
+    (Part::Exits, 4),
+    (Part::Links, 4),
+    (Part::Unlinks, 4),
+    (Part::Trap, 3),
+    (Part::Spawn, 3),
+    (Part::Sum, 4),
+    (Part::Receive, 6),
+    (Part::Branch, 4),
+    (Part::Plain, 4),
+    (Part::Stop, 1),
+    (Part::FullPair, 1),
+    (Part::LinkAndUnlink, 2),
+    (Part::Serve, 4),
+    (Part::Crash, 2),
+    (Part::SendRow, 4),
+    (Part::Select, 4),
+];
+
+const FLOOD_PARTS: &[(Part, usize)] = &[
+    (Part::Sends, 4),
+    (Part::Flood, 14),
+    (Part::Exits, 2),
+    (Part::Links, 2),
+    (Part::Unlinks, 1),
+    (Part::Trap, 4),
+    (Part::Spawn, 1),
+    (Part::Sum, 1),
+    (Part::Receive, 3),
+    (Part::Branch, 1),
+    (Part::Plain, 1),
+    (Part::FullPair, 3),
+    (Part::LinkAndUnlink, 1),
+    (Part::Serve, 2),
+    (Part::Crash, 1),
+    (Part::SendRow, 2),
+    (Part::Select, 1),
+];
+
+const LINKS_PARTS: &[(Part, usize)] = &[
+    (Part::Sends, 2),
+    (Part::Flood, 1),
+    (Part::Exits, 3),
+    (Part::Links, 8),
+    (Part::Unlinks, 4),
+    (Part::Trap, 4),
+    (Part::Spawn, 1),
+    (Part::Sum, 1),
+    (Part::Receive, 4),
+    (Part::Branch, 1),
+    (Part::Plain, 3),
+    (Part::Stop, 1),
+    (Part::FullPair, 3),
+    (Part::LinkAndUnlink, 10),
+    (Part::Serve, 3),
+    (Part::Crash, 4),
+    (Part::SendRow, 1),
+    (Part::Select, 1),
+];
+
+const EXITS_PARTS: &[(Part, usize)] = &[
+    (Part::Sends, 2),
+    (Part::Flood, 1),
+    (Part::Exits, 14),
+    (Part::Links, 6),
+    (Part::Unlinks, 2),
+    (Part::Trap, 6),
+    (Part::Spawn, 1),
+    (Part::Sum, 1),
+    (Part::Receive, 4),
+    (Part::Branch, 1),
+    (Part::Plain, 2),
+    (Part::Stop, 2),
+    (Part::FullPair, 1),
+    (Part::LinkAndUnlink, 2),
+    (Part::Serve, 3),
+    (Part::Crash, 2),
+    (Part::SendRow, 2),
+    (Part::Select, 4),
+];
+
+const RECEIVE_PARTS: &[(Part, usize)] = &[
+    (Part::Sends, 4),
+    (Part::Exits, 2),
+    (Part::Links, 1),
+    (Part::Trap, 4),
+    (Part::Receive, 4),
+    (Part::Plain, 1),
+    (Part::Serve, 4),
+    (Part::SendRow, 10),
+    (Part::Select, 10),
+];
+
+const SPAWNS_PARTS: &[(Part, usize)] = &[
+    (Part::Sends, 5),
+    (Part::Flood, 1),
+    (Part::Exits, 2),
+    (Part::Links, 3),
+    (Part::Unlinks, 1),
+    (Part::Trap, 2),
+    (Part::Spawn, 5),
+    (Part::Sum, 1),
+    (Part::Receive, 5),
+    (Part::Branch, 1),
+    (Part::Plain, 2),
+    (Part::Stop, 4),
+    (Part::LinkAndUnlink, 1),
+    (Part::Serve, 4),
+    (Part::Crash, 2),
+    (Part::SendRow, 1),
+    (Part::Select, 1),
+];
+
+const ARITHMETIC_PARTS: &[(Part, usize)] = &[
+    (Part::Sends, 2),
+    (Part::Exits, 1),
+    (Part::Links, 1),
+    (Part::Trap, 1),
+    (Part::Spawn, 1),
+    (Part::Sum, 12),
+    (Part::Receive, 2),
+    (Part::Branch, 8),
+    (Part::Plain, 6),
+    (Part::Stop, 1),
+    (Part::Serve, 3),
+];
+
+fn parts_of(theme: Theme) -> &'static [(Part, usize)] {
+    match theme {
+        Theme::Mixed => MIXED_PARTS,
+        Theme::Flood => FLOOD_PARTS,
+        Theme::Links => LINKS_PARTS,
+        Theme::Exits | Theme::Race | Theme::FullRace => EXITS_PARTS,
+        Theme::Receive => RECEIVE_PARTS,
+        Theme::Spawns => SPAWNS_PARTS,
+        Theme::Arithmetic => ARITHMETIC_PARTS,
+    }
+}
+
+/// One behaviour in the making.
+struct Writer<'a> {
+    random: &'a mut Random,
+    population: &'a [u8],
+    behaviours: usize,
+    ops: Vec<Op>,
+}
+
+/// The behaviour at this index of a plan.
+fn code(
+    random: &mut Random,
+    theme: Theme,
+    index: usize,
+    behaviours: usize,
+    population: &[u8],
+) -> Vec<Op> {
+    let mut writer = Writer {
+        random,
+        population,
+        behaviours,
+        ops: Vec::new(),
+    };
+    match (theme, index) {
+        (Theme::Race, 0) => writer.watcher(),
+        (Theme::Race, 1) => writer.crasher(),
+        (Theme::FullRace, 0) => writer.late_watcher(),
+        (Theme::FullRace, 1) => writer.full_crasher(),
+        (Theme::Receive, 0) => writer.receiver(),
+        (Theme::Receive, 1) => writer.sender(),
+        (Theme::Spawns, 0) => {
+            writer.spawn();
+            writer.spawn();
+            writer.parts(theme);
+        }
+        _ => writer.parts(theme),
+    }
+    writer.finish()
+}
+
+impl Writer<'_> {
+    /// A code made of parts that the theme makes likely.
+    fn parts(&mut self, theme: Theme) {
+        let wanted = match self.random.below(10) {
+            0 => 1,
+            1..=6 => self.random.between(3, 14),
+            _ => self.random.between(10, LONGEST),
+        };
+        if wanted > 1 && self.random.chance(40) {
+            self.trap();
+        }
+        while self.ops.len() < wanted {
+            self.add_part(theme);
+        }
+        if self.random.chance(75) {
+            self.push(Op::Jump(ANYWHERE));
+        }
+    }
+
+    /// Takes messages for ever, in two selections.
+    fn receiver(&mut self) {
+        self.push(Op::Trap(true));
+        self.select();
+        if self.random.chance(50) {
+            self.delay(2);
+            self.select();
+        }
+        self.push(Op::Jump(1));
+    }
+
+    /// Sends rows of messages, then takes some itself or ends.
+    fn sender(&mut self) {
+        if self.random.chance(50) {
+            self.push(Op::Trap(true));
+        }
+        for _ in 0..self.random.between(1, 2) {
+            self.send_row();
+        }
+        if self.random.chance(50) {
+            self.select();
+        }
+        if self.random.chance(70) {
+            self.push(Op::Jump(0));
+        }
+    }
+
+    /// Links the crasher, mostly unlinks it again, then waits.
+    fn watcher(&mut self) {
+        if self.random.chance(40) {
+            self.push(Op::Trap(true));
+        }
+        self.push(Op::Set(1, Value::Pid(self.population[1])));
+        self.push(Op::Link(1));
+        self.delay(3);
+        if self.random.chance(75) {
+            self.push(Op::Unlink(1));
+        }
+        self.delay(3);
+        if self.random.chance(20) {
+            self.push(Op::Link(1));
+        }
+        self.receive();
+        self.push(Op::Jump(ANYWHERE));
+    }
+
+    /// Sends the watcher a row of messages, often as many as its mailbox holds, then ends.
+    fn crasher(&mut self) {
+        self.push(Op::Set(0, Value::Pid(self.population[0])));
+        if self.random.chance(40) {
+            self.push(Op::Link(0));
+        }
+        let sends = *self.random.pick(&[0, 1, 3, 4, 15, 16, 16, 16, 17]);
+        for _ in 0..sends {
+            self.push(Op::Send(0, 2));
+        }
+        self.delay(6);
+        let reason = self.reason();
+        self.push(Op::Set(1, reason));
+        self.push(Op::Stop(1));
+    }
+
+    /// Unlinks the process whose number it is sent, then takes no integer.
+    fn late_watcher(&mut self) {
+        if self.random.chance(40) {
+            self.push(Op::Trap(true));
+        }
+        let after = self.ops.len() + 2;
+        self.push(Op::Recv(1));
+        self.push(Op::Clause(Clause {
+            pattern: Pattern::Pid,
+            r: 1,
+            s: 1,
+            target: after,
+        }));
+        if self.random.chance(70) {
+            self.push(Op::Unlink(1));
+        }
+        self.push(Op::Recv(1));
+        let pattern = *self
+            .random
+            .pick(&[Pattern::Atom, Pattern::Note, Pattern::Pid]);
+        self.push(Op::Clause(Clause {
+            pattern,
+            r: 1,
+            s: 2,
+            target: ANYWHERE,
+        }));
+    }
+
+    /// Links the watcher, fills its mailbox, asks for the unlink and ends.
+    fn full_crasher(&mut self) {
+        self.push(Op::Set(0, Value::Pid(self.population[0])));
+        self.push(Op::Link(0));
+        for _ in 0..15 {
+            self.push(Op::Send(0, 2));
+        }
+        self.push(Op::SelfNumber(3));
+        self.push(Op::Send(0, 3));
+        self.push(Op::Send(0, 2));
+        let reason = self.reason();
+        self.push(Op::Set(1, reason));
+        if self.random.chance(50) {
+            self.push(Op::Exit(0, 1));
+        }
+        self.push(Op::Stop(1));
+    }
+
+    /// Up to `most` ops that only change r3.
+    fn delay(&mut self, most: usize) {
+        for _ in 0..self.random.between(0, most) {
+            let value = self.value();
+            self.push(Op::Set(3, value));
+        }
+    }
+
+    /// Adds a short run of ops that belong together.
+    fn add_part(&mut self, theme: Theme) {
+        let parts = parts_of(theme);
+        let weights: Vec<usize> = parts.iter().map(|&(_, weight)| weight).collect();
+        match parts[self.random.weighted(&weights)].0 {
+            Part::Sends => self.sends(),
+            Part::Flood => self.flood(),
+            Part::Exits => self.exits(),
+            Part::Links => self.links(),
+            Part::Unlinks => self.unlinks(),
+            Part::Trap => self.trap(),
+            Part::Spawn => self.spawn(),
+            Part::Sum => self.sum(),
+            Part::Receive => self.receive(),
+            Part::Branch => self.branch(),
+            Part::Plain => self.plain(),
+            Part::Stop => self.stop(),
+            Part::FullPair => self.full_pair(),
+            Part::LinkAndUnlink => self.link_and_unlink(),
+            Part::Serve => self.serve(),
+            Part::Crash => self.crash(),
+            Part::SendRow => self.send_row(),
+            Part::Select => self.select(),
+        }
+    }
+
+    fn push(&mut self, op: Op) {
+        self.ops.push(op);
+    }
+
+    fn register(&mut self) -> usize {
+        self.random.below(4)
+    }
+
+    /// A process number, mostly of the population.
+    fn process(&mut self) -> u8 {
+        if self.random.chance(92) {
+            *self.random.pick(self.population)
+        } else {
+            self.random.between(1, 16) as u8
+        }
+    }
+
+    fn integer(&mut self) -> i32 {
+        const NEAR_LIMITS: [i32; 8] = [
+            i32::MAX,
+            i32::MAX - 1,
+            i32::MIN,
+            i32::MIN + 1,
+            1_073_741_824,
+            -1_073_741_824,
+            1,
+            -1,
+        ];
+        match self.random.below(4) {
+            0 => *self.random.pick(&NEAR_LIMITS),
+            1 => self.random.number() as i32,
+            _ => self.random.below(5) as i32 - 2,
+        }
+    }
+
+    fn atom(&mut self) -> u8 {
+        match self.random.below(8) {
+            0 => self.random.below(256) as u8,
+            1 => 255,
+            _ => self.random.below(8) as u8,
+        }
+    }
+
+    /// A value, often one of a few that exact clauses and `same` can meet: of the same number and
+    /// of different kinds.
+    fn value(&mut self) -> Value {
+        match self.random.below(6) {
+            0 => Value::Int(i32::from(self.population[0])),
+            1 => Value::Atom(self.population[0]),
+            2 => Value::Pid(self.population[0]),
+            3 => Value::Int(self.integer()),
+            4 => Value::Atom(self.atom()),
+            _ => Value::Pid(self.process()),
+        }
+    }
+
+    /// A reason that the exit lines tell apart, or any value.
+    fn reason(&mut self) -> Value {
+        match self.random.below(10) {
+            0..=2 => Value::Atom(0),
+            3..=4 => Value::Atom(1),
+            5..=6 => Value::Atom(9),
+            _ => self.value(),
+        }
+    }
+
+    /// A register that mostly holds a process number when the next op runs.
+    fn addressee(&mut self) -> usize {
+        let r = self.register();
+        match self.random.below(50) {
+            0 => {}
+            1..=2 => self.push(Op::SelfNumber(r)),
+            3..=4 => return 0,
+            _ => {
+                let process = self.process();
+                self.push(Op::Set(r, Value::Pid(process)));
+            }
+        }
+        r
+    }
+
+    /// Another register than r, mostly set to a value.
+    fn content(&mut self, r: usize, value: Value) -> usize {
+        let s = (r + self.random.between(1, 3)) % 4;
+        if self.random.chance(75) {
+            self.push(Op::Set(s, value));
+        }
+        s
+    }
+
+    fn sends(&mut self) {
+        let r = self.addressee();
+        let value = self.value();
+        let s = self.content(r, value);
+        for _ in 0..self.random.between(1, 3) {
+            self.push(Op::Send(r, s));
+        }
+    }
+
+    /// A loop that sends for ever.
+    fn flood(&mut self) {
+        let r = self.addressee();
+        let value = match self.random.below(3) {
+            0 => Value::Atom(9),
+            1 => Value::Atom(0),
+            _ => self.value(),
+        };
+        let s = self.content(r, value);
+        let start = self.ops.len();
+        for _ in 0..self.random.between(1, 3) {
+            let op = match self.random.below(12) {
+                0..=5 => Op::Send(r, s),
+                6..=8 => Op::Exit(r, s),
+                9 => Op::Link(r),
+                10 => Op::Unlink(r),
+                _ => Op::Copy(s, r),
+            };
+            self.push(op);
+        }
+        if self.random.chance(70) {
+            self.push(Op::Jump(start));
+        }
+    }
+
+    fn exits(&mut self) {
+        let r = self.addressee();
+        let reason = self.reason();
+        let s = self.content(r, reason);
+        self.push(Op::Exit(r, s));
+    }
+
+    fn links(&mut self) {
+        for _ in 0..self.random.between(1, 2) {
+            let r = self.addressee();
+            self.push(Op::Link(r));
+        }
+    }
+
+    fn unlinks(&mut self) {
+        let r = self.addressee();
+        self.push(Op::Unlink(r));
+    }
+
+    /// A link that is taken back after some steps; an exit signal sent meanwhile is dropped.
+    fn link_and_unlink(&mut self) {
+        let (r, process) = (self.register(), self.process());
+        self.push(Op::Set(r, Value::Pid(process)));
+        self.push(Op::Link(r));
+        for _ in 0..self.random.below(4) {
+            self.push(Op::Trap(true));
+        }
+        self.push(Op::Unlink(r));
+    }
+
+    /// Messages of different kinds, and notes if the other one traps, in a random order.
+    fn send_row(&mut self) {
+        let (r, process) = (self.register(), self.process());
+        let values = [
+            Value::Int(i32::from(self.population[0])),
+            Value::Atom(self.population[0]),
+            self.value(),
+        ];
+        self.push(Op::Set(r, Value::Pid(process)));
+        for (offset, value) in values.into_iter().enumerate() {
+            self.push(Op::Set((r + 1 + offset) % 4, value));
+        }
+        for _ in 0..self.random.between(2, 6) {
+            let s = self.register();
+            let op = if self.random.chance(75) {
+                Op::Send(r, s)
+            } else {
+                Op::Exit(r, s)
+            };
+            self.push(op);
+        }
+    }
+
+    /// A recv with clauses of different kinds in a random order.
+    fn select(&mut self) {
+        let start = self.ops.len();
+        let mut patterns = vec![
+            Pattern::Int,
+            Pattern::Atom,
+            Pattern::Pid,
+            Pattern::Note,
+            Pattern::Exact(self.value()),
+        ];
+        let count = self.random.between(2, 5);
+        self.push(Op::Recv(count));
+        for _ in 0..count {
+            let pattern = patterns.swap_remove(self.random.below(patterns.len()));
+            let after = start + count + 1;
+            let target = if self.random.chance(50) { start } else { after };
+            let (r, s) = (self.register(), self.register());
+            self.push(Op::Clause(Clause {
+                pattern,
+                r,
+                s,
+                target,
+            }));
+        }
+    }
+
+    /// An end some steps after a link.
+    fn crash(&mut self) {
+        let (r, process) = (self.register(), self.process());
+        self.push(Op::Set(r, Value::Pid(process)));
+        self.push(Op::Link(r));
+        self.delay(4);
+        let reason = self.reason();
+        self.push(Op::Set(r, reason));
+        self.push(Op::Stop(r));
+    }
+
+    /// A loop that takes messages and passes some of them on.
+    fn serve(&mut self) {
+        let start = self.ops.len();
+        let count = self.random.between(1, 4);
+        let after = start + count + 1;
+        self.push(Op::Recv(count));
+        for _ in 0..count {
+            let target = if self.random.chance(60) { start } else { after };
+            let clause = self.clause(target);
+            self.push(Op::Clause(clause));
+        }
+        let (r, s) = (self.register(), self.register());
+        if self.random.chance(50) {
+            let process = self.process();
+            self.push(Op::Set(r, Value::Pid(process)));
+            self.push(Op::Send(r, s));
+        }
+        if self.random.chance(60) {
+            self.push(Op::Jump(start));
+        }
+    }
+
+    fn trap(&mut self) {
+        let flag = self.random.chance(75);
+        self.push(Op::Trap(flag));
+    }
+
+    fn spawn(&mut self) {
+        let (r, s) = (self.register(), self.register());
+        let behaviour = self.random.between(1, self.behaviours) as u8;
+        let process = self.process();
+        self.push(Op::Spawn {
+            r,
+            behaviour,
+            process,
+        });
+        match self.random.below(4) {
+            0 => self.push(Op::Link(r)),
+            1 => self.push(Op::Send(r, s)),
+            _ => {}
+        }
+    }
+
+    /// An add whose sum is often near a limit of i.
+    fn sum(&mut self) {
+        let (r, s) = (self.register(), self.register());
+        if self.random.chance(80) {
+            let left = self.integer();
+            self.push(Op::Set(r, Value::Int(left)));
+        }
+        if self.random.chance(70) {
+            let right = self.random.below(3) as i32 - 1;
+            self.push(Op::Set(s, Value::Int(right)));
+        }
+        self.push(Op::Add(r, s));
+    }
+
+    fn receive(&mut self) {
+        let count = self.random.weighted(&[0, 6, 5, 3, 1, 1, 1, 1, 1]);
+        let after = self.ops.len() + count + 1;
+        self.push(Op::Recv(count));
+        for _ in 0..count {
+            let target = if self.random.chance(55) {
+                after
+            } else {
+                ANYWHERE
+            };
+            let clause = self.clause(target);
+            self.push(Op::Clause(clause));
+        }
+    }
+
+    fn clause(&mut self, target: usize) -> Clause {
+        let pattern = match self.random.below(13) {
+            0..=2 => Pattern::Any,
+            3..=4 => Pattern::Int,
+            5..=6 => Pattern::Atom,
+            7..=8 => Pattern::Pid,
+            9..=10 => Pattern::Note,
+            _ => Pattern::Exact(self.value()),
+        };
+        let (r, s) = (self.register(), self.register());
+        let s = if self.random.chance(15) { r } else { s };
+        Clause {
+            pattern,
+            r,
+            s,
+            target,
+        }
+    }
+
+    fn branch(&mut self) {
+        let (r, s) = (self.register(), self.register());
+        let op = match self.random.below(6) {
+            0..=1 => Op::Less(r, s, ANYWHERE),
+            2..=3 => {
+                let value = self.value();
+                self.push(Op::Set(r, value));
+                Op::Same(r, self.value(), ANYWHERE)
+            }
+            4 => Op::Same(r, Value::Int(0), ANYWHERE),
+            _ => Op::Jump(ANYWHERE),
+        };
+        self.push(op);
+    }
+
+    fn plain(&mut self) {
+        let (r, s) = (self.register(), self.register());
+        let op = match self.random.below(4) {
+            0 => Op::Copy(r, s),
+            1 => Op::SelfNumber(r),
+            _ => Op::Set(r, self.value()),
+        };
+        self.push(op);
+    }
+
+    fn stop(&mut self) {
+        let r = self.register();
+        if self.random.chance(60) {
+            let reason = self.reason();
+            self.push(Op::Set(r, reason));
+        }
+        self.push(Op::Stop(r));
+    }
+
+    /// A link, then as many signals as fill the pair, then the end: the closing process meets 26
+    /// unless some of its signals have arrived.
+    fn full_pair(&mut self) {
+        let (r, process) = (self.register(), self.process());
+        if self.random.chance(60) {
+            let other = self.process();
+            self.push(Op::Set(r, Value::Pid(other)));
+            self.push(Op::Link(r));
+        }
+        self.push(Op::Set(r, Value::Pid(process)));
+        self.push(Op::Link(r));
+        for _ in 0..3 {
+            self.push(Op::Send(r, r));
+        }
+        if self.random.chance(80) {
+            let s = self.register();
+            self.push(Op::Stop(s));
+        }
+    }
+
+    /// Cuts the code to its limit without parting a recv from its clauses, then sets the targets.
+    fn finish(self) -> Vec<Op> {
+        let Writer {
+            random, mut ops, ..
+        } = self;
+        cut(&mut ops);
+        let length = ops.len();
+        let is_clause = |place: usize| matches!(ops.get(place), Some(Op::Clause(_)));
+        let places: Vec<usize> = (0..=length).filter(|&place| !is_clause(place)).collect();
+        for op in &mut ops {
+            match op {
+                Op::Clause(clause) => set_target(random, &mut clause.target, &places),
+                Op::Jump(target) | Op::Same(_, _, target) | Op::Less(_, _, target) => {
+                    set_target(random, target, &places);
+                }
+                _ => {}
+            }
+        }
+        ops
+    }
+}
+
+fn set_target(random: &mut Random, target: &mut usize, places: &[usize]) {
+    if !places.contains(target) {
+        *target = *random.pick(places);
+    }
+}
+
+/// Leaves at most 32 ops, and at least one.
+fn cut(ops: &mut Vec<Op>) {
+    if ops.len() <= LONGEST {
+        return;
+    }
+    // Cut before a recv that would lose clauses.
+    let loses_clauses = |place: usize| match ops[place] {
+        Op::Recv(count) => place + count >= LONGEST,
+        _ => false,
+    };
+    let length = (0..LONGEST).find(|&place| loses_clauses(place));
+    ops.truncate(length.unwrap_or(LONGEST));
+}

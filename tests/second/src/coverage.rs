@@ -1,0 +1,508 @@
+//! Counts of what a batch of cases reached, so that a thin batch is seen.
+
+use crate::node::{
+    Clause, Message, Node, Op, Pattern, Signal, Stage, Value, MAILBOX_LIMIT, PAIR_LIMIT, PROCESSES,
+};
+use crate::plan::{op_word, OPERANDS};
+use crate::step::{self, Effect, Step};
+use crate::steps::LINE_LIMIT;
+use crate::text::Refused;
+use std::collections::BTreeMap;
+use std::fmt;
+
+/// Every refusal number that the program can tell.
+pub const REFUSALS: [u8; 15] = [10, 11, 12, 13, 14, 15, 20, 21, 22, 23, 24, 25, 26, 27, 32];
+
+/// The stages; an unborn process is counted where a listing leaves it out.
+pub const STAGES: [&str; 4] = ["unborn", "live", "closing", "gone"];
+
+/// Finer events, in the order of the table. A count of an event that is not here is a mistake.
+pub const DETAILS: [&str; 77] = [
+    "run at place N",
+    "closing told a link",
+    "closing went gone",
+    "add ended with a4, overflow",
+    "add ended with a4, kinds",
+    "add reached a limit of i",
+    "send ended with a3",
+    "exit ended with a3",
+    "link ended with a3",
+    "unlink ended with a3",
+    "less ended with a3",
+    "less to its target",
+    "less not to its target",
+    "same to its target",
+    "same not to its target",
+    "link to itself",
+    "unlink to itself",
+    "send to itself",
+    "exit to itself",
+    "signal sent to an unborn process",
+    "spawn of a process with signals waiting",
+    "clause any took a value",
+    "clause any took a note",
+    "clause int fitted",
+    "clause atom fitted",
+    "clause pid fitted",
+    "clause note fitted",
+    "clause exact value fitted",
+    "clause with r = s took a note",
+    "recv passed over a message",
+    "msg joined",
+    "link added",
+    "link at a full mailbox",
+    "unlink taken",
+    "unlink at a full mailbox",
+    "msg dropped at closing or gone",
+    "exit dropped at closing or gone",
+    "link dropped at closing or gone",
+    "unlink dropped at closing or gone",
+    "line 1 at a full mailbox",
+    "line 2, trap 0",
+    "line 2, trap 1",
+    "line 3, linked 0",
+    "line 3, linked 0, from a link",
+    "line 3, linked 1",
+    "line 3, linked 1, a1",
+    "line 4, linked 0",
+    "line 4, linked 1",
+    "line 4 at a full mailbox",
+    "line 5, linked 0",
+    "line 5, linked 1",
+    "line 5, linked 1, a1",
+    "line 5, a0 from itself",
+    "20 run",
+    "20 arrive, owner",
+    "20 arrive, sender",
+    "21 run",
+    "21 arrive, none in flight",
+    "21 arrive, signal waits",
+    "24 msg",
+    "24 note",
+    "25 empty mailbox",
+    "25 mail without a fit",
+    "26 send",
+    "26 exit",
+    "26 link",
+    "26 unlink",
+    "26 closing",
+    "26 pair with itself",
+    "27 itself",
+    "27 another",
+    "listing with mail=16",
+    "listing with a note",
+    "listing with a pair of 4",
+    "listing with two links or more",
+    "play of 0 steps",
+    "play of 4,096 steps accepted",
+];
+
+/// The counters. Ops are counted when they ran; clause is counted when it took a message.
+#[derive(Clone, Debug)]
+pub struct Coverage {
+    pub ops: BTreeMap<&'static str, u64>,
+    pub refusals: BTreeMap<u8, u64>,
+    /// Index 0 is line 1.
+    pub exit_lines: [u64; 5],
+    pub stages: [u64; 4],
+    /// signal=msg, signal=exit, signal=link, signal=unlink in listings.
+    pub listed_signals: [u64; 4],
+    pub details: BTreeMap<&'static str, u64>,
+    pub cases: u64,
+    pub accepted_steps: u64,
+    pub whole_plays: u64,
+}
+
+impl Default for Coverage {
+    fn default() -> Coverage {
+        Coverage {
+            ops: OPERANDS.iter().map(|&(word, _)| (word, 0)).collect(),
+            refusals: REFUSALS.iter().map(|&number| (number, 0)).collect(),
+            exit_lines: [0; 5],
+            stages: [0; 4],
+            listed_signals: [0; 4],
+            details: DETAILS.iter().map(|&name| (name, 0)).collect(),
+            cases: 0,
+            accepted_steps: 0,
+            whole_plays: 0,
+        }
+    }
+}
+
+impl Coverage {
+    pub fn new() -> Coverage {
+        Coverage::default()
+    }
+
+    pub fn count_load_refusal(&mut self, refused: &Refused) {
+        self.cases += 1;
+        self.refusal(refused.number);
+    }
+
+    pub fn count_steps_refusal(&mut self, refused: &Refused) {
+        self.cases += 1;
+        self.refusal(refused.number);
+    }
+
+    /// Counts a whole play and the node that its listing shows.
+    pub fn count_play(&mut self, node: &Node, steps: usize, accepted: usize, refused: u8) {
+        self.cases += 1;
+        self.accepted_steps += accepted as u64;
+        if refused == 0 {
+            self.whole_plays += 1;
+        }
+        self.detail_if(steps == 0, "play of 0 steps");
+        self.detail_if(accepted == LINE_LIMIT, "play of 4,096 steps accepted");
+        for process in 1..=PROCESSES {
+            self.count_stage(node.stage(process));
+        }
+        for (_, _, signals) in node.flights() {
+            self.count_flight(signals);
+        }
+    }
+
+    /// Counts one step; the node is the one after it, which is the one before it on a refusal.
+    pub fn count_step(&mut self, node: &Node, step: Step, result: &Result<Effect, u8>) {
+        match *result {
+            Ok(effect) => self.count_effect(node, step, effect),
+            Err(number) => self.count_step_refusal(node, step, number),
+        }
+    }
+
+    /// The names of the counters that are below `least`, except the plain sums.
+    pub fn rarer_than(&self, least: u64) -> Vec<String> {
+        let rows = self.rows();
+        let rare = rows.into_iter().filter(|(_, count)| *count < least);
+        rare.map(|(name, count)| format!("{name}: {count}"))
+            .collect()
+    }
+
+    fn rows(&self) -> Vec<(String, u64)> {
+        let mut rows = Vec::new();
+        for (word, _) in OPERANDS {
+            rows.push((format!("op {word}"), self.ops[word]));
+        }
+        for number in REFUSALS {
+            rows.push((format!("refusal {number}"), self.refusals[&number]));
+        }
+        for (index, &count) in self.exit_lines.iter().enumerate() {
+            rows.push((format!("exit line {}", index + 1), count));
+        }
+        for (name, &count) in STAGES.iter().zip(&self.stages) {
+            rows.push((format!("stage {name}"), count));
+        }
+        let signals = ["msg", "exit", "link", "unlink"];
+        for (name, &count) in signals.iter().zip(&self.listed_signals) {
+            rows.push((format!("listed signal {name}"), count));
+        }
+        for name in DETAILS {
+            rows.push((name.to_string(), self.details[name]));
+        }
+        rows
+    }
+
+    fn refusal(&mut self, number: u8) {
+        *self
+            .refusals
+            .get_mut(&number)
+            .expect("a number of REFUSALS") += 1;
+    }
+
+    fn detail(&mut self, name: &'static str) {
+        *self.details.get_mut(name).expect("a name of DETAILS") += 1;
+    }
+
+    fn detail_if(&mut self, happened: bool, name: &'static str) {
+        if happened {
+            self.detail(name);
+        }
+    }
+
+    fn count_stage(&mut self, stage: &Stage) {
+        let index = match stage {
+            Stage::Unborn => 0,
+            Stage::Live(_) => 1,
+            Stage::Closing { .. } => 2,
+            Stage::Gone => 3,
+        };
+        self.stages[index] += 1;
+        let Stage::Live(live) = stage else { return };
+        let is_note = |message: &Message| matches!(message, Message::Note { .. });
+        let full = live.mailbox.len() == MAILBOX_LIMIT;
+        self.detail_if(full, "listing with mail=16");
+        self.detail_if(live.mailbox.iter().any(is_note), "listing with a note");
+        self.detail_if(live.links.len() > 1, "listing with two links or more");
+    }
+
+    fn count_flight(&mut self, signals: &[Signal]) {
+        self.detail_if(signals.len() == PAIR_LIMIT, "listing with a pair of 4");
+        for signal in signals {
+            let index = match signal {
+                Signal::Msg(_) => 0,
+                Signal::Exit { .. } => 1,
+                Signal::Link => 2,
+                Signal::Unlink => 3,
+            };
+            self.listed_signals[index] += 1;
+        }
+    }
+
+    fn count_effect(&mut self, node: &Node, step: Step, effect: Effect) {
+        let owner = step.owner();
+        match effect {
+            Effect::EndOfCode => self.detail("run at place N"),
+            Effect::ToldLink => self.detail("closing told a link"),
+            Effect::WentGone => self.detail("closing went gone"),
+            Effect::Ran { op, registers } => self.count_op(node, owner, op, registers),
+            Effect::Received {
+                clause,
+                message,
+                index,
+            } => self.count_received(clause, message, index),
+            Effect::DroppedAtEnded(signal) => self.count_dropped(signal),
+            Effect::Taken(signal) => self.count_taken(node, owner, signal),
+            Effect::ExitLine {
+                line,
+                reason,
+                linked,
+                trap,
+            } => {
+                self.exit_lines[usize::from(line) - 1] += 1;
+                match line {
+                    2 if trap => self.detail("line 2, trap 1"),
+                    2 => self.detail("line 2, trap 0"),
+                    _ => self.count_exit_line(node, step, line, reason, linked),
+                }
+            }
+        }
+    }
+
+    fn count_word(&mut self, op: Op) {
+        *self.ops.get_mut(op_word(op)).expect("a word of OPERANDS") += 1;
+    }
+
+    fn count_op(&mut self, node: &Node, owner: u8, op: Op, before: [Value; 4]) {
+        self.count_word(op);
+        match node.stage(owner) {
+            Stage::Live(_) => self.count_op_of_live(node, owner, op),
+            _ => self.count_op_that_ended(op, before),
+        }
+    }
+
+    fn count_op_of_live(&mut self, node: &Node, owner: u8, op: Op) {
+        let live = node.live(owner);
+        match op {
+            Op::Add(r, _) => {
+                let limits = [Value::Int(i32::MAX), Value::Int(i32::MIN)];
+                let at_limit = limits.contains(&live.registers[r]);
+                self.detail_if(at_limit, "add reached a limit of i");
+            }
+            Op::Less(_, _, target) if live.place == target => self.detail("less to its target"),
+            Op::Less(..) => self.detail("less not to its target"),
+            Op::Same(_, _, target) if live.place == target => self.detail("same to its target"),
+            Op::Same(..) => self.detail("same not to its target"),
+            Op::Send(r, _) | Op::Exit(r, _) | Op::Link(r) | Op::Unlink(r) => {
+                self.count_sending(node, owner, op, live.registers[r]);
+            }
+            Op::Spawn { process, .. } => {
+                let waiting = node.flights().any(|(_, to, _)| to == process);
+                self.detail_if(waiting, "spawn of a process with signals waiting");
+            }
+            _ => {}
+        }
+    }
+
+    fn count_sending(&mut self, node: &Node, owner: u8, op: Op, addressee: Value) {
+        let Value::Pid(to) = addressee else { return };
+        if *node.stage(to) == Stage::Unborn {
+            self.detail("signal sent to an unborn process");
+        }
+        if to != owner {
+            return;
+        }
+        self.detail(match op {
+            Op::Send(..) => "send to itself",
+            Op::Exit(..) => "exit to itself",
+            Op::Link(_) => "link to itself",
+            _ => "unlink to itself",
+        });
+    }
+
+    fn count_op_that_ended(&mut self, op: Op, before: [Value; 4]) {
+        let is_int = |r: usize| matches!(before[r], Value::Int(_));
+        match op {
+            Op::Add(r, s) if is_int(r) && is_int(s) => self.detail("add ended with a4, overflow"),
+            Op::Add(..) => self.detail("add ended with a4, kinds"),
+            Op::Send(..) => self.detail("send ended with a3"),
+            Op::Exit(..) => self.detail("exit ended with a3"),
+            Op::Link(_) => self.detail("link ended with a3"),
+            Op::Unlink(_) => self.detail("unlink ended with a3"),
+            Op::Less(..) => self.detail("less ended with a3"),
+            _ => {}
+        }
+    }
+
+    fn count_received(&mut self, clause: Clause, message: Message, index: usize) {
+        self.count_word(Op::Recv(1));
+        self.count_word(Op::Clause(clause));
+        let is_note = matches!(message, Message::Note { .. });
+        self.detail(match clause.pattern {
+            Pattern::Any if is_note => "clause any took a note",
+            Pattern::Any => "clause any took a value",
+            Pattern::Int => "clause int fitted",
+            Pattern::Atom => "clause atom fitted",
+            Pattern::Pid => "clause pid fitted",
+            Pattern::Note => "clause note fitted",
+            Pattern::Exact(_) => "clause exact value fitted",
+        });
+        let one_register = is_note && clause.r == clause.s;
+        self.detail_if(one_register, "clause with r = s took a note");
+        self.detail_if(index > 0, "recv passed over a message");
+    }
+
+    fn count_dropped(&mut self, signal: Signal) {
+        self.detail(match signal {
+            Signal::Msg(_) => "msg dropped at closing or gone",
+            Signal::Exit { .. } => "exit dropped at closing or gone",
+            Signal::Link => "link dropped at closing or gone",
+            Signal::Unlink => "unlink dropped at closing or gone",
+        });
+    }
+
+    fn count_taken(&mut self, node: &Node, owner: u8, signal: Signal) {
+        let full = node.live(owner).mailbox.len() == MAILBOX_LIMIT;
+        match signal {
+            Signal::Link => {
+                self.detail("link added");
+                self.detail_if(full, "link at a full mailbox");
+            }
+            Signal::Unlink => {
+                self.detail("unlink taken");
+                self.detail_if(full, "unlink at a full mailbox");
+            }
+            _ => self.detail("msg joined"),
+        }
+    }
+
+    /// The finer events of lines 1, 3, 4 and 5.
+    fn count_exit_line(&mut self, node: &Node, step: Step, line: u8, reason: Value, linked: bool) {
+        let Step::Arrive { to, from } = step else {
+            return;
+        };
+        let (full, still_linked) = match node.stage(to) {
+            Stage::Live(live) => (
+                live.mailbox.len() == MAILBOX_LIMIT,
+                live.links.contains(&from),
+            ),
+            _ => (false, false),
+        };
+        let kill = reason == Value::Atom(1);
+        match (line, linked) {
+            (1, _) => self.detail_if(full, "line 1 at a full mailbox"),
+            (3, false) => {
+                self.detail("line 3, linked 0");
+                self.detail_if(still_linked, "line 3, linked 0, from a link");
+            }
+            (3, true) => {
+                self.detail("line 3, linked 1");
+                self.detail_if(kill, "line 3, linked 1, a1");
+            }
+            (4, _) => {
+                self.detail(if linked {
+                    "line 4, linked 1"
+                } else {
+                    "line 4, linked 0"
+                });
+                self.detail_if(full, "line 4 at a full mailbox");
+            }
+            (_, false) => {
+                self.detail("line 5, linked 0");
+                let normal = reason == Value::Atom(0);
+                self.detail_if(normal && from == to, "line 5, a0 from itself");
+            }
+            (_, true) => {
+                self.detail("line 5, linked 1");
+                self.detail_if(kill, "line 5, linked 1, a1");
+            }
+        }
+    }
+
+    fn count_step_refusal(&mut self, node: &Node, step: Step, number: u8) {
+        self.refusal(number);
+        match (number, step) {
+            (step::BAD_NUMBER, Step::Run(_)) => self.detail("20 run"),
+            (step::BAD_NUMBER, Step::Arrive { to, .. }) => {
+                let owner_known = (1..=PROCESSES).contains(&to);
+                self.detail(if owner_known {
+                    "20 arrive, sender"
+                } else {
+                    "20 arrive, owner"
+                });
+            }
+            (step::OWNER_UNBORN, Step::Run(_)) => self.detail("21 run"),
+            (step::OWNER_UNBORN, Step::Arrive { to, from }) => {
+                self.detail(if node.flight(from, to).is_empty() {
+                    "21 arrive, none in flight"
+                } else {
+                    "21 arrive, signal waits"
+                });
+            }
+            (step::MAILBOX_FULL, Step::Arrive { to, from }) => {
+                let first = node.flight(from, to).first();
+                self.detail(match first {
+                    Some(Signal::Msg(_)) => "24 msg",
+                    _ => "24 note",
+                });
+            }
+            (step::NO_FIT | step::PAIR_FULL | step::NOT_UNBORN, Step::Run(process)) => {
+                self.count_run_refusal(node, process);
+            }
+            _ => {}
+        }
+    }
+
+    /// Counts a refusal of 25, 26 or 27 by the op, or the closing process, that met it.
+    fn count_run_refusal(&mut self, node: &Node, process: u8) {
+        if matches!(node.stage(process), Stage::Closing { .. }) {
+            self.detail("26 closing");
+            return;
+        }
+        let live = node.live(process);
+        let own = |r: usize| live.registers[r] == Value::Pid(process);
+        match node.current_op(process) {
+            Some(Op::Recv(_)) if live.mailbox.is_empty() => self.detail("25 empty mailbox"),
+            Some(Op::Recv(_)) => self.detail("25 mail without a fit"),
+            Some(Op::Send(r, _)) => {
+                self.detail("26 send");
+                self.detail_if(own(r), "26 pair with itself");
+            }
+            Some(Op::Exit(r, _)) => {
+                self.detail("26 exit");
+                self.detail_if(own(r), "26 pair with itself");
+            }
+            Some(Op::Link(_)) => self.detail("26 link"),
+            Some(Op::Unlink(_)) => self.detail("26 unlink"),
+            Some(Op::Spawn {
+                process: spawned, ..
+            }) => {
+                self.detail(if spawned == process {
+                    "27 itself"
+                } else {
+                    "27 another"
+                });
+            }
+            _ => {}
+        }
+    }
+}
+
+impl fmt::Display for Coverage {
+    fn fmt(&self, out: &mut fmt::Formatter<'_>) -> fmt::Result {
+        for (name, count) in self.rows() {
+            writeln!(out, "{count:>10}  {name}")?;
+        }
+        writeln!(out, "{:>10}  cases", self.cases)?;
+        writeln!(out, "{:>10}  accepted steps", self.accepted_steps)?;
+        writeln!(out, "{:>10}  plays without a refusal", self.whole_plays)
+    }
+}

@@ -1,0 +1,453 @@
+//! The step rules of document 01, sections "Steps" and "The three hands".
+//! Every function looks for a refusal first and changes the node only afterwards, because "A
+//! refused step leaves the node unchanged".
+
+use crate::node::{
+    Clause, Live, Message, Node, Op, Pattern, Signal, Stage, Value, BADARG, BADARITH, KILL, KILLED,
+    MAILBOX_LIMIT, NORMAL, PROCESSES,
+};
+
+/// "A step is `run i` or `arrive i from j`; its owner is i."
+#[derive(Clone, Copy, Debug, PartialEq, Eq)]
+pub enum Step {
+    Run(u8),
+    Arrive { to: u8, from: u8 },
+}
+
+impl Step {
+    pub fn owner(self) -> u8 {
+        match self {
+            Step::Run(process) => process,
+            Step::Arrive { to, .. } => to,
+        }
+    }
+}
+
+/// The refusals that a step can meet.
+pub const BAD_NUMBER: u8 = 20;
+pub const OWNER_UNBORN: u8 = 21;
+pub const RUN_OF_GONE: u8 = 22;
+pub const NONE_IN_FLIGHT: u8 = 23;
+pub const MAILBOX_FULL: u8 = 24;
+pub const NO_FIT: u8 = 25;
+pub const PAIR_FULL: u8 = 26;
+pub const NOT_UNBORN: u8 = 27;
+
+/// What an accepted step did. The rules do not need it; coverage counts it.
+#[derive(Clone, Copy, Debug, PartialEq, Eq)]
+pub enum Effect {
+    /// A live process at place N ended.
+    EndOfCode,
+    /// A live process ran an op other than recv; its registers were these before.
+    Ran { op: Op, registers: [Value; 4] },
+    /// A live process ran recv and this clause took this message, so far at this index.
+    Received {
+        clause: Clause,
+        message: Message,
+        index: usize,
+    },
+    /// A closing process sent its exit reason to a link.
+    ToldLink,
+    /// A closing process without links went gone.
+    WentGone,
+    /// A signal reached a closing or a gone process.
+    DroppedAtEnded(Signal),
+    /// A msg, link or unlink signal reached a live process.
+    Taken(Signal),
+    /// An exit signal reached a live process, whose trap flag was this, and this line, 1 to 5,
+    /// applied.
+    ExitLine {
+        line: u8,
+        reason: Value,
+        linked: bool,
+        trap: bool,
+    },
+}
+
+/// Plays one step. On a refusal the node is unchanged and the answer is the refusal's number.
+pub fn take(node: &mut Node, step: Step) -> Result<Effect, u8> {
+    // "Checks run in this order: 31, 30, 32, 20, 21, 22 or 23, then the rest"
+    check_numbers(step)?;
+    // "21 owner unborn"
+    if *node.stage(step.owner()) == Stage::Unborn {
+        return Err(OWNER_UNBORN);
+    }
+    match step {
+        Step::Run(process) => run(node, process),
+        Step::Arrive { to, from } => arrive(node, to, from),
+    }
+}
+
+/// "20 a process number outside 1 to 16"
+fn check_numbers(step: Step) -> Result<(), u8> {
+    let known = |process: u8| (1..=PROCESSES).contains(&process);
+    let good = match step {
+        Step::Run(process) => known(process),
+        Step::Arrive { to, from } => known(to) && known(from),
+    };
+    if good {
+        Ok(())
+    } else {
+        Err(BAD_NUMBER)
+    }
+}
+
+fn run(node: &mut Node, process: u8) -> Result<Effect, u8> {
+    match node.stage(process) {
+        Stage::Unborn => Err(OWNER_UNBORN),
+        Stage::Live(_) => run_live(node, process),
+        Stage::Closing { .. } => run_closing(node, process),
+        // "22 run of a gone process"
+        Stage::Gone => Err(RUN_OF_GONE),
+    }
+}
+
+/// "At place N the process ends with a0. Otherwise the op decides; unless said, the place rises
+/// by 1."
+fn run_live(node: &mut Node, process: u8) -> Result<Effect, u8> {
+    let Some(op) = node.current_op(process) else {
+        end(node, process, NORMAL);
+        return Ok(Effect::EndOfCode);
+    };
+    let registers = node.live(process).registers;
+    match op {
+        Op::Set(r, value) => set(node, process, r, value),
+        Op::Copy(r, s) => copy(node, process, r, s),
+        Op::SelfNumber(r) => set(node, process, r, Value::Pid(process)),
+        Op::Add(r, s) => add(node, process, r, s),
+        Op::Send(r, s) => send(node, process, r, s)?,
+        Op::Exit(r, s) => exit(node, process, r, s)?,
+        Op::Link(r) => link(node, process, r)?,
+        Op::Unlink(r) => unlink(node, process, r)?,
+        Op::Trap(flag) => trap(node, process, flag),
+        Op::Spawn {
+            r,
+            behaviour,
+            process: spawned,
+        } => spawn(node, process, r, behaviour, spawned)?,
+        Op::Recv(count) => return recv(node, process, count),
+        // "no place is on a clause": loading and the steps keep every place off the clauses.
+        Op::Clause(_) => panic!("process {process} has its place on a clause"),
+        Op::Jump(target) => node.live_mut(process).place = target,
+        Op::Same(r, value, target) => same(node, process, r, value, target),
+        Op::Less(r, s, target) => less(node, process, r, s, target),
+        Op::Stop(r) => stop(node, process, r),
+    }
+    Ok(Effect::Ran { op, registers })
+}
+
+fn register(node: &Node, process: u8, r: usize) -> Value {
+    node.live(process).registers[r]
+}
+
+fn rise(node: &mut Node, process: u8) {
+    node.live_mut(process).place += 1;
+}
+
+/// "set,r,V / copy,r,s / self,r: r becomes V / s / own number"
+fn set(node: &mut Node, process: u8, r: usize, value: Value) {
+    node.live_mut(process).registers[r] = value;
+    rise(node, process);
+}
+
+fn copy(node: &mut Node, process: u8, r: usize, s: usize) {
+    let value = register(node, process, s);
+    set(node, process, r, value);
+}
+
+/// "add,r,s: r becomes r+s; not both integers, or sum outside i: ends with a4"
+fn add(node: &mut Node, process: u8, r: usize, s: usize) {
+    let pair = (register(node, process, r), register(node, process, s));
+    let sum = match pair {
+        (Value::Int(left), Value::Int(right)) => left.checked_add(right),
+        _ => None,
+    };
+    match sum {
+        Some(sum) => set(node, process, r, Value::Int(sum)),
+        None => end(node, process, BADARITH),
+    }
+}
+
+/// The process number in a register, if it holds one.
+fn addressee(node: &Node, process: u8, r: usize) -> Option<u8> {
+    match register(node, process, r) {
+        Value::Pid(number) => Some(number),
+        Value::Int(_) | Value::Atom(_) => None,
+    }
+}
+
+/// "26 pair full"
+fn check_room(node: &Node, from: u8, to: u8) -> Result<(), u8> {
+    if node.pair_is_full(from, to) {
+        Err(PAIR_FULL)
+    } else {
+        Ok(())
+    }
+}
+
+/// "send,r,s: sends msg(s) to r"
+fn send(node: &mut Node, process: u8, r: usize, s: usize) -> Result<(), u8> {
+    let signal = Signal::Msg(register(node, process, s));
+    send_to_register(node, process, r, signal)
+}
+
+/// "exit,r,s: sends exit(s,0) to r"
+fn exit(node: &mut Node, process: u8, r: usize, s: usize) -> Result<(), u8> {
+    let signal = Signal::Exit {
+        reason: register(node, process, s),
+        linked: false,
+    };
+    send_to_register(node, process, r, signal)
+}
+
+/// "If r of send, exit, link or unlink holds no p, the process ends with a3, before 26 is looked
+/// at."
+fn send_to_register(node: &mut Node, process: u8, r: usize, signal: Signal) -> Result<(), u8> {
+    let Some(to) = addressee(node, process, r) else {
+        end(node, process, BADARG);
+        return Ok(());
+    };
+    check_room(node, process, to)?;
+    node.push_signal(process, to, signal);
+    rise(node, process);
+    Ok(())
+}
+
+/// "link,r: adds r to own links, sends link; to itself: nothing"
+fn link(node: &mut Node, process: u8, r: usize) -> Result<(), u8> {
+    let Some(other) = addressee(node, process, r) else {
+        end(node, process, BADARG);
+        return Ok(());
+    };
+    if other != process {
+        check_room(node, process, other)?;
+        node.live_mut(process).links.insert(other);
+        node.push_signal(process, other, Signal::Link);
+    }
+    rise(node, process);
+    Ok(())
+}
+
+/// "unlink,r: takes r from own links, sends unlink; to itself: nothing"
+fn unlink(node: &mut Node, process: u8, r: usize) -> Result<(), u8> {
+    let Some(other) = addressee(node, process, r) else {
+        end(node, process, BADARG);
+        return Ok(());
+    };
+    if other != process {
+        check_room(node, process, other)?;
+        node.live_mut(process).links.remove(&other);
+        node.push_signal(process, other, Signal::Unlink);
+    }
+    rise(node, process);
+    Ok(())
+}
+
+/// "trap,f: trap flag becomes f, 0 or 1"
+fn trap(node: &mut Node, process: u8, flag: bool) {
+    node.live_mut(process).trap = flag;
+    rise(node, process);
+}
+
+/// "spawn,r,b,q: process q goes live in behaviour b, place 0, its r0 the spawner's number, other
+/// registers i0, no links, trap 0, no mail; r becomes q"
+fn spawn(node: &mut Node, process: u8, r: usize, behaviour: u8, spawned: u8) -> Result<(), u8> {
+    // "27 spawned number not unborn"
+    if *node.stage(spawned) != Stage::Unborn {
+        return Err(NOT_UNBORN);
+    }
+    let fresh = Live::fresh(behaviour, Value::Pid(process));
+    node.set_stage(spawned, Stage::Live(fresh));
+    set(node, process, r, Value::Pid(spawned));
+    Ok(())
+}
+
+/// "same,r,V,t: place t if r equals V in kind and number"
+fn same(node: &mut Node, process: u8, r: usize, value: Value, target: usize) {
+    if register(node, process, r) == value {
+        node.live_mut(process).place = target;
+    } else {
+        rise(node, process);
+    }
+}
+
+/// "less,r,s,t: place t if r < s; not both integers: ends with a3"
+fn less(node: &mut Node, process: u8, r: usize, s: usize, target: usize) {
+    let pair = (register(node, process, r), register(node, process, s));
+    match pair {
+        (Value::Int(left), Value::Int(right)) if left < right => {
+            node.live_mut(process).place = target;
+        }
+        (Value::Int(_), Value::Int(_)) => rise(node, process),
+        _ => end(node, process, BADARG),
+    }
+}
+
+/// "stop,r: ends with the value of r"
+fn stop(node: &mut Node, process: u8, r: usize) {
+    let reason = register(node, process, r);
+    end(node, process, reason);
+}
+
+/// "The next n ops are its clauses". "That message leaves, the rest keep their order. A value goes
+/// to r; of a note the sender goes to r, then the reason to s. Place becomes t."
+fn recv(node: &mut Node, process: u8, count: usize) -> Result<Effect, u8> {
+    // "25 recv without a fit"
+    let (index, clause) = first_fit(node, process, count).ok_or(NO_FIT)?;
+    let live = node.live_mut(process);
+    let message = live.mailbox.remove(index);
+    match message {
+        Message::Value(value) => live.registers[clause.r] = value,
+        Message::Note { sender, reason } => {
+            live.registers[clause.r] = Value::Pid(sender);
+            live.registers[clause.s] = reason;
+        }
+    }
+    live.place = clause.target;
+    Ok(Effect::Received {
+        clause,
+        message,
+        index,
+    })
+}
+
+/// "Messages are tried in mailbox order and, for each, clauses in their order; the first fit wins."
+fn first_fit(node: &Node, process: u8, count: usize) -> Option<(usize, Clause)> {
+    let live = node.live(process);
+    let clauses = &node.code(live.behaviour)[live.place + 1..=live.place + count];
+    for (index, message) in live.mailbox.iter().enumerate() {
+        for op in clauses {
+            let Op::Clause(clause) = op else {
+                panic!("recv is followed by {op:?} instead of a clause");
+            };
+            if fits(clause.pattern, message) {
+                return Some((index, *clause));
+            }
+        }
+    }
+    None
+}
+
+/// "k is any (notes too), int, atom, pid, note or one exact V (values only)"
+fn fits(pattern: Pattern, message: &Message) -> bool {
+    match (pattern, message) {
+        (Pattern::Any, _) => true,
+        (Pattern::Note, Message::Note { .. }) => true,
+        (Pattern::Int, Message::Value(Value::Int(_))) => true,
+        (Pattern::Atom, Message::Value(Value::Atom(_))) => true,
+        (Pattern::Pid, Message::Value(Value::Pid(_))) => true,
+        (Pattern::Exact(wanted), Message::Value(value)) => wanted == *value,
+        _ => false,
+    }
+}
+
+/// "Ending with v: the process goes closing with reason v and its links unchanged; registers and
+/// mail are lost."
+fn end(node: &mut Node, process: u8, reason: Value) {
+    let links = node.live(process).links.clone();
+    node.set_stage(process, Stage::Closing { reason, links });
+}
+
+/// "Run, closing: sends exit(v,1) to its lowest-numbered link and drops it from the set; with no
+/// links it goes gone."
+fn run_closing(node: &mut Node, process: u8) -> Result<Effect, u8> {
+    let Stage::Closing { reason, links } = node.stage(process) else {
+        panic!("process {process} is not closing");
+    };
+    let (reason, mut links) = (*reason, links.clone());
+    let Some(lowest) = links.pop_first() else {
+        node.set_stage(process, Stage::Gone);
+        return Ok(Effect::WentGone);
+    };
+    check_room(node, process, lowest)?;
+    let signal = Signal::Exit {
+        reason,
+        linked: true,
+    };
+    node.push_signal(process, lowest, signal);
+    node.set_stage(process, Stage::Closing { reason, links });
+    Ok(Effect::ToldLink)
+}
+
+/// "Arrive takes the oldest signal from j to i. Closing or gone i: the signal is dropped."
+fn arrive(node: &mut Node, to: u8, from: u8) -> Result<Effect, u8> {
+    // "23 none in flight"
+    let signal = *node.flight(from, to).first().ok_or(NONE_IN_FLIGHT)?;
+    let effect = match node.stage(to) {
+        Stage::Unborn => return Err(OWNER_UNBORN),
+        Stage::Closing { .. } | Stage::Gone => Effect::DroppedAtEnded(signal),
+        Stage::Live(_) => arrive_live(node, to, from, signal)?,
+    };
+    node.remove_oldest(from, to);
+    Ok(effect)
+}
+
+/// "Live i: msg joins the mailbox; link adds j; unlink removes j; exit(v,b), first line that
+/// applies"
+fn arrive_live(node: &mut Node, to: u8, from: u8, signal: Signal) -> Result<Effect, u8> {
+    match signal {
+        Signal::Msg(value) => join_mailbox(node, to, Message::Value(value))?,
+        Signal::Link => {
+            node.live_mut(to).links.insert(from);
+        }
+        Signal::Unlink => {
+            node.live_mut(to).links.remove(&from);
+        }
+        Signal::Exit { reason, linked } => return arrive_exit(node, to, from, reason, linked),
+    }
+    Ok(Effect::Taken(signal))
+}
+
+/// "24 mailbox full where a message or note would join"
+fn join_mailbox(node: &mut Node, process: u8, message: Message) -> Result<(), u8> {
+    let mailbox = &mut node.live_mut(process).mailbox;
+    if mailbox.len() >= MAILBOX_LIMIT {
+        return Err(MAILBOX_FULL);
+    }
+    mailbox.push(message);
+    Ok(())
+}
+
+/// The five lines for exit(v,b) from j at a live i.
+fn arrive_exit(
+    node: &mut Node,
+    to: u8,
+    from: u8,
+    reason: Value,
+    linked: bool,
+) -> Result<Effect, u8> {
+    let live = node.live(to);
+    let trap = live.trap;
+    let line = if linked && !live.links.contains(&from) {
+        // "1. b=1, j not linked: dropped."
+        1
+    } else if !linked && reason == KILL {
+        // "2. b=0, v=a1: i ends with a2."
+        end(node, to, KILLED);
+        2
+    } else if trap {
+        // "3. trap 1: note (j,v) joins the mailbox; if b=1, j leaves the links."
+        let note = Message::Note {
+            sender: from,
+            reason,
+        };
+        join_mailbox(node, to, note)?;
+        if linked {
+            node.live_mut(to).links.remove(&from);
+        }
+        3
+    } else if reason == NORMAL && from != to {
+        // "4. v=a0, j is not i: dropped, i unchanged."
+        4
+    } else {
+        // "5. i ends with v."
+        end(node, to, reason);
+        5
+    };
+    Ok(Effect::ExitLine {
+        line,
+        reason,
+        linked,
+        trap,
+    })
+}
