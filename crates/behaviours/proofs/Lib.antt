@@ -1,3 +1,4 @@
 pub mod Tests
 pub mod Codes
 pub mod Clauses
+pub mod Values

@@ -218,8 +218,8 @@ pub fn value_sound(v: Value) -> bool
     ensures { λ r. ⌜ r ≡ valueSound v ⌝ }
 {
     match v {
-        Value::Int(_) => true,
-        Value::Atom(_) => true,
+        Value::Int(_i) => true,
+        Value::Atom(_a) => true,
         Value::Pid(j) => {
             let i = j.0;
             is_number(i)

@@ -157,7 +157,7 @@ module _ (m : Mailbox) (a : Mailed m) where
 
   -- a message joins where there is room
   joined-mailed : (x : Message) → So (messageSound x) → m .count < 16 → Mailed (joined m x)
-  unfolding joined messageOk
+  unfolding joined messageOk fitsInt
   joined-mailed x h g =
       let e : min (m .count + 1) 255 ≡ suc (m .count) = omega arith in
       record {
@@ -166,7 +166,7 @@ module _ (m : Mailbox) (a : Mailed m) where
       }
 
   without-mailed : (k : ℕ) → Mailed (without m k)
-  unfolding without messageOk
+  unfolding without messageOk fitsInt
   without-mailed k = record {
     few = rw messages-length (le-leb (m .count - 1) 16 (omega (arith, count-16)));
     sound = rw messages-sound (firsts-left messageOk noMessage refl k (m .count) (m .slots) held-sound);
@@ -481,11 +481,11 @@ module _ (codes : List (List Instruction)) (i : ℕ) (number : So (isNumber i)) 
   register-good k = register-sound p (a .valued) k
 
   adds-good : isRecv (instruction here) ≡ false → (k : ℕ) (v w : Value) → OK (adds st k v w)
-  adds-good r k (Int x) (Int y) = go (fitsInt (x +ℤ y))
+  adds-good r k (Int x) (Int y) = go (fitsInt (x +ℤ y)) refl
     where
-      go : (b : Bool) → OK (cond b (setsRegister st k (Int (x +ℤ y))) (ends st badarith))
-      go true = sets-good r k (Int (x +ℤ y)) refl
-      go false = ends-here badarith refl
+      go : (b : Bool) → fitsInt (x +ℤ y) ≡ b → OK (cond b (setsRegister st k (Int (x +ℤ y))) (ends st badarith))
+      go true h = sets-good r k (Int (x +ℤ y)) h
+      go false h = ends-here badarith refl
   adds-good r k (Int x) (Atom y) = ends-here badarith refl
   adds-good r k (Int x) (Pid y) = ends-here badarith refl
   adds-good r k (Atom x) w = ends-here badarith refl
@@ -530,7 +530,7 @@ module _ (codes : List (List Instruction)) (i : ℕ) (number : So (isNumber i)) 
 
   -- a spawned process begins at place 0, which no clause is on: none is due there
   spawns-good : here .number ≡ 9 → OK (spawns i st here)
-  unfolding kindsOf operand operandInRange linkSet linksTo
+  unfolding kindsOf operand operandInRange linkSet linksTo fitsInt
   spawns-good e =
       let q = here .process .0 in
       let b = here .behaviour .0 in

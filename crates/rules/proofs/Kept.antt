@@ -29,7 +29,7 @@ use Rattle.rules.specs.Nodes.{Sound, sound, viewSound, view, behavioursO
 use Rattle.rules.specs.Arrive.{arrives}
 use Rattle.rules.specs.Run.{runs}
 use Rattle.rules.specs.Steps.{Action, run, arrive, owner, at, withArrival, withSending, withBirth, commit, numbered, signalWaits, pairHasRoom, incoming, decide, step, state, playsOn, played, play}
-use Rattle.rules.specs.Values.{numbers, isNumber}
+use Rattle.rules.specs.Values.{numbers, isNumber, fitsInt}
 use Rattle.rules.proofs.Accepted.{Act, step-goes}
 use Rattle.rules.proofs.All.{both, parts, allOf-any, allOf-map, made-length, made-at, made-all, all-made}
 use Rattle.rules.proofs.Firsts.{firsts-joined, firsts-left, set-read, at-read}
@@ -138,11 +138,11 @@ module _ (j i : ℕ) where
   empty-ok = refl
 
   popped-ok : (r : Row) → RowOk r → RowOk (popped r)
-  unfolding popped signalOk
+  unfolding popped signalOk fitsInt
   popped-ok r h = let w = row-parts r h in parts-row (popped r) (omega arith) (firsts-left signalOk noSignal refl 0 (r .count) (r .cells) (w .1))
 
   pushed-ok : (r : Row) (x : Signal) → RowOk r → So (signalSound j i x) → r .count < 4 → RowOk (pushed r x)
-  unfolding pushed signalOk
+  unfolding pushed signalOk fitsInt
   pushed-ok r x h g f =
       let w = row-parts r h in
       let e : min (r .count + 1) 255 ≡ suc (r .count) = omega arith in
@@ -239,7 +239,7 @@ kept-of x g q = rw q at g
 
 -- the signal that arrives is one of a sound row, or what is read where there is none
 incoming-sound : (n : Node) (j i : ℕ) → RowOk j i (row n j i) → So (signalSound j i (incoming n j i))
-unfolding incoming
+unfolding incoming fitsInt
 incoming-sound n j i h = allOf-any (signalSound j i) (noSignal .signal) (signals (row n j i)) refl (row-signals j i (row n j i) h) _
 
 -- what the owner of a step decides on keeps what an effect must keep

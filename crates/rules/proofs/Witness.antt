@@ -26,7 +26,7 @@ use Rattle.rules.specs.Values.{isNumber, fitsInt}
 use Rattle.rules.proofs.Sample.{opOf, int, sample, started}
 
 pub started-sound : Sound started
-unfolding started sample opOf sound viewSound view behavioursOf code linkSet standing runningSound rowSound operand instruction operandInRange inRange hasClauses targetsFree wellPlaced codeSound isNumber messages signals linksTo kindsOf
+unfolding started sample opOf sound viewSound view behavioursOf code linkSet standing runningSound rowSound operand instruction operandInRange inRange hasClauses targetsFree wellPlaced codeSound isNumber fitsInt messages signals linksTo kindsOf
 started-sound = refl
 
 pub started-sized : Sized started

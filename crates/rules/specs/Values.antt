@@ -3,7 +3,7 @@
 --   isNumber i      i is one of them
 --   least greatest  the limits of an integer `i`
 --   fitsInt z       z is within them
---   valueSound v    v keeps its limits. The limits of `i` and of an atom (0 to 255) are those of their types, i32 and u8
+--   valueSound v    v keeps its limits
 --   messageSound m  so do the values of a message, and a note's sender
 --   sameValue v w   v equals w in kind and number
 use mathlib.Core.Bool.{Bool, true, false, _&&_}
@@ -34,8 +34,8 @@ unfoldable pub fitsInt : ℤ → Bool
 fitsInt z = leZ least z && leZ z greatest
 
 abbrev pub valueSound : Value → Bool
-valueSound (Int z) = true
-valueSound (Atom a) = true
+valueSound (Int z) = fitsInt z
+valueSound (Atom a) = leb a 255
 valueSound (Pid j) = isNumber (j .0)
 
 abbrev pub messageSound : Message → Bool
