@@ -1,0 +1,119 @@
+-- What a number stands for, by its kind, and that the parts which are read of it mean that. Assumes nothing.
+--   Means a t     record t says what action a is, and where its owner's process and its row stand
+--   meant         what is decoded of a number means the number's action
+--   decode-encode the number of a step stands for the step
+use mathlib.Core.Bool.{true, false, not, So, cond, _&&_, false≢true}
+use mathlib.Core.List.{_∷_, []}
+use mathlib.Core.Path.{_≡_, refl, sym, _∙_, ap}
+use Prim.Native.Nat.{ℕ, _+_, _-_, _*_, _/_, _%_, _≤_, _<_, min}
+use native.Mathlib.Omega.{arith}
+use native.Mathlib.Decide.{ℕ-discrete}
+use borrow.Author.Tests.{not-false}
+use lib.Dec.{eqb}
+use lib.ListN.{List·getD-eq-default}
+use Rattle.node.specs.declared.ProcessNumber.{ProcessNumber}
+use Rattle.node.specs.declared.Step.{Step}
+use Rattle.node.specs.Nodes.{pair}
+use Rattle.rules.specs.Steps.{Action, run, arrive, meaning, numbered}
+use Rattle.rules.specs.Values.{isNumber}
+use Rattle.rules.proofs.All.{parts}
+use Rattle.rules.proofs.Records.{number-bounds}
+use Rattle.actions.specs.declared.Decoded.{Decoded}
+use Rattle.actions.specs.Numbers.{encode, decode, actionOf}
+use Rattle.actions.specs.Places.{processAt, decodedOf}
+
+pub record Means (a : Action) (t : Decoded) : Type 0 where
+  pub bad : t .bad ≡ not (numbered a)
+  pub action : t .bad ≡ false → a ≡ cond (t .arrives) (arrive (t .owner .0) (t .from .0)) (run (t .owner .0))
+  pub at : t .bad ≡ false → t .at ≡ t .owner .0 - 1
+  pub row : t .bad ≡ false → t .arrives ≡ true → t .row ≡ pair (t .from .0) (t .owner .0)
+
+-- ---- the action of a step, by its kind
+
+module _ (kind : ℕ) (i j : ProcessNumber) where
+  abbrev pub said : Action
+  said = meaning (record { kind = min kind 255; owner = i; from = j })
+
+  pub said-run : kind ≡ 0 → said ≡ run (i .0)
+  unfolding meaning
+  said-run h = rw h
+
+  pub said-arrive : kind ≡ 1 → said ≡ arrive (i .0) (j .0)
+  unfolding meaning
+  said-arrive h = rw h
+
+  pub said-none : 1 < kind → said ≡ run 0
+  unfolding meaning
+  said-none h = let z : 2 ≤ min kind 255 = omega (arith, h) in List·getD-eq-default (run (i .0) ∷ arrive (i .0) (j .0) ∷ []) (run 0) z
+
+  pub arrive-numbered : kind ≡ 1 → numbered said ≡ (isNumber (i .0) && isNumber (j .0))
+  unfolding numbered
+  arrive-numbered h = rw (said-arrive h)
+
+  -- of a run and of an arrival, the owner is looked at
+  pub owner-unnumbered : kind ≤ 1 → isNumber (i .0) ≡ false → numbered said ≡ false
+  unfolding numbered
+  owner-unnumbered h e = go (ℕ-discrete kind 0)
+    where
+      go : Dec (kind ≡ 0) → numbered said ≡ false
+      go (yes z) = rw (said-run z) e
+      go (no z) = rw (said-arrive (omega (arith, h, z)), e)
+
+pub none-numbered : {a : Action} → a ≡ run 0 → numbered a ≡ false
+unfolding numbered isNumber
+none-numbered e = rw e
+
+-- ---- what is decoded
+
+module _ (k : ℕ) where
+  abbrev i : ℕ
+  i = k / 256 % 256
+
+  abbrev j : ℕ
+  j = k % 256
+
+  kind-run : k / 65536 ≡ 0 → actionOf k ≡ run i
+  unfolding actionOf decode
+  kind-run h = said-run (k / 65536) (record { 0 = i }) (record { 0 = j }) h
+
+  kind-arrive : k / 65536 ≡ 1 → actionOf k ≡ arrive i j
+  unfolding actionOf decode
+  kind-arrive h = said-arrive (k / 65536) (record { 0 = i }) (record { 0 = j }) h
+
+  kind-none : 1 < k / 65536 → actionOf k ≡ run 0
+  unfolding actionOf decode
+  kind-none h = said-none (k / 65536) (record { 0 = i }) (record { 0 = j }) h
+
+  at-here : So (isNumber i) → processAt i ≡ i - 1
+  at-here h = let x = number-bounds i h in omega (arith, x)
+
+  of-kind : Dec (k / 65536 ≡ 0) → Dec (k / 65536 ≡ 1) → Means (actionOf k) (decodedOf k)
+  unfolding decodedOf numbered
+  of-kind (yes h) d =
+      let a : eqb (k / 65536) 1 ≡ false = rw h in
+      let known : not (numbered (actionOf k)) ≡ false → So (isNumber i) = λ ok. rw (kind-run h) at (not-false (numbered (actionOf k)) ok) in
+      record { bad = refl; action = λ ok. kind-run h ∙ rw a; at = λ ok. at-here (known ok); row = λ ok arr. absurd (false≢true (sym a ∙ arr)) }
+  of-kind (no g) (yes h) =
+      let a : eqb (k / 65536) 1 ≡ true = rw h in
+      let known : not (numbered (actionOf k)) ≡ false → So (isNumber i) × So (isNumber j) = λ ok. parts (isNumber i) (isNumber j) (rw (kind-arrive h) at (not-false (numbered (actionOf k)) ok)) in
+      record {
+        bad = refl;
+        action = λ ok. kind-arrive h ∙ rw a;
+        at = λ ok. at-here (known ok .0);
+        row = λ ok arr. let x = number-bounds i (known ok .0) in let y = number-bounds j (known ok .1) in omega (arith, x, y);
+      }
+  of-kind (no g) (no h) =
+      let bad : not (numbered (actionOf k)) ≡ false → ⊥ = λ ok. false≢true (sym ok ∙ ap not (none-numbered (kind-none (omega (arith, g, h))))) in
+      record { bad = refl; action = λ ok. absurd (bad ok); at = λ ok. absurd (bad ok); row = λ ok arr. absurd (bad ok) }
+
+  pub meant : (t : Decoded) → t ≡ decodedOf k → Means (actionOf k) t
+  meant t e = rw e (of-kind (ℕ-discrete (k / 65536) 0) (ℕ-discrete (k / 65536) 1))
+
+pub decode-encode : (s : Step) → s .kind < 256 → s .owner .0 < 256 → s .from .0 < 256 → decode (encode s) ≡ s
+unfolding decode encode
+decode-encode s a b c =
+    let k = s .kind * 65536 + s .owner .0 * 256 + s .from .0 in
+    let x : min (k / 65536) 255 ≡ s .kind = omega (arith, a, b, c) in
+    let y : k / 256 % 256 ≡ s .owner .0 = omega (arith, a, b, c) in
+    let z : k % 256 ≡ s .from .0 = omega (arith, a, b, c) in
+    rw (x, y, z)

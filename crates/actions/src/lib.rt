@@ -1,0 +1,130 @@
+// A step as one number: its action, and where its parts stand in a node.
+ghost use mathlib.Core.Bool.{not};
+ghost use mathlib.Core.Path.{_≡_};
+ghost use Prim.Native.Nat.{_<_, min};
+ghost use Rattle.rules.specs.Steps.{isUnborn, meaning, numbered};
+ghost use Rattle.actions.specs.Numbers.{encode, decode};
+ghost use Rattle.actions.specs.Places.{processAt, rowAt, behaviourAt, opAt, decodedOf};
+use behaviours::is_number;
+use node::BehaviourNumber;
+use node::Process;
+use node::ProcessNumber;
+use node::Stage;
+use node::Step;
+
+// What the number of a step says: whether a process number in it is none (20), whether it is an arrival, whose it is, from whom, and where
+// the owner's process and the row stand.
+pub struct Decoded {
+    pub bad: bool,
+    pub arrives: bool,
+    pub owner: ProcessNumber,
+    pub from: ProcessNumber,
+    pub at: usize,
+    pub row: usize,
+}
+
+// Where process i stands.
+pub fn process_index(i: ProcessNumber) -> usize
+    ensures { λ r. ⌜ r ≡ processAt (i .0) ⌝ }
+    ensures { λ r. ⌜ r < 16 ⌝ }
+{
+    let k = i.index();
+    if k < 16 {
+        return k;
+    }
+    15
+}
+
+// Where the row from j to i stands.
+pub fn row_index(j: ProcessNumber, i: ProcessNumber) -> usize
+    ensures { λ r. ⌜ r ≡ rowAt (j .0) (i .0) ⌝ }
+    ensures { λ r. ⌜ r < 256 ⌝ }
+{
+    let from = process_index(j);
+    let to = process_index(i);
+    16 * from + to
+}
+
+// Where the length of behaviour b stands.
+pub fn behaviour_index(b: BehaviourNumber) -> usize
+    ensures { λ r. ⌜ r ≡ behaviourAt (b .0) ⌝ }
+    ensures { λ r. ⌜ r < 8 ⌝ }
+{
+    let k = b.index();
+    if k < 8 {
+        return k;
+    }
+    7
+}
+
+// Where op `place + more` of behaviour b stands.
+pub fn op_index(b: BehaviourNumber, place: u8, more: u8) -> usize
+    ensures { λ r. ⌜ r ≡ opAt (b .0) place more ⌝ }
+    ensures { λ r. ⌜ r < 256 ⌝ }
+{
+    let w = behaviour_index(b);
+    let x = 32 * w + (place as usize) + (more as usize);
+    if x < 256 {
+        return x;
+    }
+    255
+}
+
+pub fn is_unborn(p: Process) -> bool
+    ensures { λ r. ⌜ r ≡ isUnborn (p .stage) ⌝ }
+{
+    let stage = p.stage;
+    match stage {
+        Stage::Unborn => true,
+        Stage::Live => false,
+        Stage::Closing => false,
+        Stage::Gone => false,
+    }
+}
+
+// The number of a step, which stands for that step.
+pub fn encode(s: Step) -> u32
+    ensures { λ r. ⌜ r ≡ encode s ⌝ }
+    ensures { λ r. ⌜ decode r ≡ s ⌝ }
+{
+    let owner = s.owner;
+    let from = s.from;
+    (s.kind as u32) * 65536 + (owner.0 as u32) * 256 + (from.0 as u32)
+}
+
+// The step of a number, as its action.
+pub fn decode(s: u32) -> Decoded
+    ensures { λ r. ⌜ r ≡ decodedOf s ⌝ }
+    ensures { λ r. ⌜ (r .at < 16) × (r .row < 256) ⌝ }
+{
+    let kind = s / 65536;
+    let owner = ProcessNumber((s / 256 % 256) as u8);
+    let from = ProcessNumber((s % 256) as u8);
+    let bad = is_unnumbered(kind, owner, from);
+    let at = process_index(owner);
+    let row = row_index(from, owner);
+    Decoded {
+        bad: bad,
+        arrives: kind == 1,
+        owner: owner,
+        from: from,
+        at: at,
+        row: row,
+    }
+}
+
+// 20: a process number of the step is none, or its kind is none.
+fn is_unnumbered(kind: u32, owner: ProcessNumber, from: ProcessNumber) -> bool
+    ensures { λ r. ⌜ r ≡ not (numbered (meaning (record { kind = min kind 255; owner = owner; from = from }))) ⌝ }
+{
+    if 1 < kind {
+        return true;
+    }
+    if is_number(owner.0) {
+        if kind == 0 {
+            return false;
+        }
+        return !is_number(from.0);
+    }
+    true
+}

@@ -1,0 +1,28 @@
+-- `suggest` looks at 31 before the possible steps. Assumes nothing.
+use Rattle.engine.proofs.suggest.Statement.{statement}
+use Rattle.engine.proofs.suggest.Tie as tie
+use mathlib.Core.Path.{refl, sym, _∙_}
+use borrow.Author.Needs.{needs}
+
+sound-requires : tie.Need-sound-requires
+sound-requires c κs = search needs
+
+first-accepted-requires : tie.Need-first-accepted-requires
+first-accepted-requires c κs =
+    let its-sound = c .before .sound in
+    let its-if1 = c .if1 in
+    sym (its-sound .ensures) ∙ its-if1 .taken
+
+returns : tie.Need-returns
+returns c =
+    let its-first-accepted = c .first-accepted in
+    its-first-accepted .ensures
+
+returns-2 : tie.Need-returns-2
+returns-2 c =
+    let its-sound = c .before .sound in
+    let its-if1 = c .if1 in
+    (refl, sym (its-sound .ensures) ∙ its-if1 .left)
+
+pub suggest-spec : {M : Type 1} → statement M
+suggest-spec = tie.close (tie.spec sound-requires first-accepted-requires returns returns-2)

@@ -1,0 +1,34 @@
+-- What the answers of the engine mean in the rules of document 01.
+--   playedOf r      the answer of a play: count, refusal and node
+--   steppedBy n a   the answer of a step of node n: a refusal leaves the node
+--   suggestionOf s  the answer of a suggestion: 31, a step, or none
+--   possibleStep k  step k of the 272 possible ones, in the order of `possible`
+use mathlib.Core.Bool.{cond}
+use mathlib.Core.Option.{Option, none, some}
+use Prim.Native.Nat.{ℕ, _+_, _/_, _%_}
+use lib.Dec.{eqb}
+use Rattle.node.specs.declared.Node.{Node}
+use Rattle.node.specs.declared.Step.{Step}
+use Rattle.rules.specs.Answers.{Answer, refused, done, notSound}
+use Rattle.rules.specs.Steps.{Action, meaning}
+use Rattle.rules.specs.Steps as steps
+use Rattle.engine.specs.declared.Played.{Played}
+use Rattle.engine.specs.declared.Stepped.{Stepped}
+use Rattle.engine.specs.declared.Suggestion.{Suggestion}
+use Rattle.engine.specs.declared.Suggestion.the-variants.{Unsound, Next, Nothing}
+
+abbrev pub playedOf : Played → steps.Played
+playedOf r = record { accepted = r .accepted; refusal = r .refusal; node = r .node }
+
+abbrev pub steppedBy : Node → Answer Node → Stepped
+steppedBy n (refused k) = record { refusal = k; node = n }
+steppedBy n (done m) = record { refusal = 0; node = m }
+
+abbrev pub suggestionOf : Suggestion → Answer (Option Action)
+suggestionOf Unsound = refused notSound
+suggestionOf (Next s) = done (some (meaning s))
+suggestionOf Nothing = done none
+
+-- by owner, its run, then its arrivals by sender
+unfoldable pub possibleStep : ℕ → Step
+possibleStep k = record { kind = cond (eqb (k % 17) 0) 0 1; owner = record { 0 = k / 17 + 1 }; from = record { 0 = k % 17 } }

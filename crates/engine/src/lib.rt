@@ -1,0 +1,256 @@
+// The engine: a step, a schedule, and what to do next. One loop keeps the node in one local, decides on small values and stores in place.
+ghost use mathlib.Core.List.{map};
+ghost use mathlib.Core.Path.{_≡_};
+ghost use Prim.Native.Nat.{_<_};
+ghost use Rattle.actions.specs.Numbers.{actionOf};
+ghost use Rattle.rules.specs.Nodes.{Sound};
+ghost use Rattle.rules.specs.Steps.{meaning, step, play, played};
+ghost use Rattle.rules.specs.Suggest.{Suggests};
+ghost use Rattle.engine.specs.Answers.{playedOf, steppedBy, suggestionOf, possibleStep};
+use actions::behaviour_index;
+use actions::decode;
+use actions::encode;
+use actions::is_unborn;
+use actions::op_index;
+use actions::process_index;
+use actions::row_index;
+use node::Node;
+use node::Process;
+use node::ProcessNumber;
+use node::Step;
+use node::Value;
+
+// What a play tells: how many steps were accepted, the refusal that ended it (0 if none), and the node then.
+pub struct Played {
+    pub accepted: usize,
+    pub refusal: u8,
+    pub node: Node,
+}
+
+pub struct Stepped {
+    pub refusal: u8,
+    pub node: Node,
+}
+
+// A step that would be accepted, or none where no step would be; Unsound is refusal 31.
+pub enum Suggestion {
+    Unsound,
+    Next(Step),
+    Nothing,
+}
+
+// The most steps of a schedule.
+const LONGEST: usize = 4096;
+
+// A step of a node: 31, then what the rules say. A refusal leaves the node.
+pub fn step(n: Node, s: Step) -> Stepped
+    ensures { λ r. ⌜ r ≡ steppedBy n (step n (meaning s)) ⌝ }
+{
+    let numbers = [encode(s)];
+    let r = play(n, &numbers);
+    let refusal = r.refusal;
+    let node = r.node;
+    Stepped { refusal, node }
+}
+
+// A schedule, a number for each step: 31, 32, then the steps until one is refused.
+pub fn play(n: Node, numbers: &[u32]) -> Played
+    ensures { λ r. ⌜ playedOf r ≡ play n (map actionOf (now (numbers .entry))) ⌝ }
+{
+    if soundness::sound(n) {
+        if LONGEST < numbers.len() {
+            return ended(0, 32, n);
+        }
+        return play_core(n, numbers);
+    }
+    ended(0, 31, n)
+}
+
+// A step that the node would accept: by owner, its run, then its arrivals by sender.
+pub fn suggest(n: Node) -> Suggestion
+    ensures { λ r. ⌜ Suggests n (suggestionOf r) ⌝ }
+{
+    if soundness::sound(n) {
+        return first_accepted(n);
+    }
+    Suggestion::Unsound
+}
+
+// The first of the 272 possible steps that is accepted.
+fn first_accepted(n: Node) -> Suggestion
+    requires { ⌜ Sound n ⌝ }
+    ensures { λ r. ⌜ Suggests n (suggestionOf r) ⌝ }
+{
+    let mut k: u16 = 0;
+    while k < 272 {
+        let s = possible(k);
+        k += 1;
+        let numbers = [encode(s)];
+        let r = play_core(n, &numbers);
+        if r.accepted == 1 {
+            return Suggestion::Next(s);
+        }
+    }
+    Suggestion::Nothing
+}
+
+// Possible step k: 17 for each owner, its run and an arrival from each process.
+fn possible(k: u16) -> Step
+    requires { ⌜ k < 272 ⌝ }
+    ensures { λ r. ⌜ r ≡ possibleStep k ⌝ }
+{
+    let from = (k % 17) as u8;
+    let owner = ((k / 17) as u8) + 1;
+    if from == 0 {
+        return Step {
+            kind: 0,
+            owner: ProcessNumber(owner),
+            from: ProcessNumber(0),
+        };
+    }
+    Step {
+        kind: 1,
+        owner: ProcessNumber(owner),
+        from: ProcessNumber(from),
+    }
+}
+
+fn ended(accepted: usize, refusal: u8, node: Node) -> Played
+    ensures { λ r. ⌜ playedOf r ≡ record { accepted = accepted; refusal = refusal; node = node } ⌝ }
+{
+    Played {
+        accepted,
+        refusal,
+        node,
+    }
+}
+
+// The steps of a sound node, played until one is refused. It decides on small values and stores in place, since handing the node to a
+// function for each step would copy it; this is why it is long.
+fn play_core(n: Node, numbers: &[u32]) -> Played
+    requires { ⌜ Sound n ⌝ }
+    ensures { λ r. ⌜ playedOf r ≡ played n (map actionOf (now (numbers .entry))) ⌝ }
+{
+    let mut node = n;
+    let mut i: usize = 0;
+    while i < numbers.len() {
+        let t = i;
+        let s = decode(numbers[t]);
+        i += 1;
+        let bad = s.bad;
+        if bad {
+            return ended(t, 20, node);
+        }
+        let k = s.at;
+        let o = s.owner;
+        let p = node.processes[k];
+        if is_unborn(p) {
+            return ended(t, 21, node);
+        }
+        let arrives = s.arrives;
+        if arrives {
+            let r = s.row;
+            let row = node.flight[r];
+            let waiting = row.count;
+            if waiting == 0 {
+                return ended(t, 23, node);
+            }
+            let j = s.from;
+            let signal = row.oldest();
+            let mail = node.mail[k];
+            let e = decisions::arrive(o, j, p, mail.count, signal);
+            let refusal = e.refusal;
+            if refusal != 0 {
+                return ended(t, refusal, node);
+            }
+            let q = e.process;
+            let next = row.popped();
+            node.processes[k] = q;
+            node.flight[r] = next;
+            let joins = e.joins;
+            if joins {
+                let message = e.message;
+                let more = mail.joined(message);
+                node.mail[k] = more;
+                continue;
+            }
+            continue;
+        }
+        let b = p.behaviour;
+        let w = behaviour_index(b);
+        let len = node.lens[w];
+        let x = op_index(b, p.place, 0);
+        let op = node.ops[x];
+        let e = decisions::run(o, p, len, op);
+        let receives = e.receives;
+        if receives {
+            let c1 = op_index(b, p.place, 1);
+            let c2 = op_index(b, p.place, 2);
+            let c3 = op_index(b, p.place, 3);
+            let c4 = op_index(b, p.place, 4);
+            let c5 = op_index(b, p.place, 5);
+            let c6 = op_index(b, p.place, 6);
+            let c7 = op_index(b, p.place, 7);
+            let c8 = op_index(b, p.place, 8);
+            let o1 = node.ops[c1];
+            let o2 = node.ops[c2];
+            let o3 = node.ops[c3];
+            let o4 = node.ops[c4];
+            let o5 = node.ops[c5];
+            let o6 = node.ops[c6];
+            let o7 = node.ops[c7];
+            let o8 = node.ops[c8];
+            let clauses = [o1, o2, o3, o4, o5, o6, o7, o8];
+            let mail = node.mail[k];
+            let g = receive::receive(p, mail, clauses, op.small);
+            let unfit = g.refusal;
+            if unfit != 0 {
+                return ended(t, unfit, node);
+            }
+            let q = g.process;
+            let rest = g.mail;
+            node.processes[k] = q;
+            node.mail[k] = rest;
+            continue;
+        }
+        let refusal = e.refusal;
+        if refusal != 0 {
+            return ended(t, refusal, node);
+        }
+        let q = e.process;
+        let sends = e.sends;
+        if sends {
+            let to = e.to;
+            let r = row_index(o, to);
+            let row = node.flight[r];
+            let full = row.count;
+            if 4 <= full {
+                return ended(t, 26, node);
+            }
+            let signal = e.signal;
+            let next = row.pushed(signal);
+            node.processes[k] = q;
+            node.flight[r] = next;
+            continue;
+        }
+        let spawns = e.spawns;
+        if spawns {
+            let number = e.number;
+            let at = process_index(number);
+            let old = node.processes[at];
+            if is_unborn(old) {
+                let behaviour = e.behaviour;
+                let child = Process::fresh(behaviour, Value::Pid(o));
+                let mail = node.mail[at];
+                let none = mail.emptied();
+                node.processes[k] = q;
+                node.processes[at] = child;
+                node.mail[at] = none;
+                continue;
+            }
+            return ended(t, 27, node);
+        }
+        node.processes[k] = q;
+    }
+    ended(i, 0, node)
+}
