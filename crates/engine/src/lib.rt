@@ -137,8 +137,7 @@ fn play_core(n: Node, numbers: &[u32]) -> Played
         let t = i;
         let s = decode(numbers[t]);
         i += 1;
-        let bad = s.bad;
-        if bad {
+        if s.bad {
             return ended(t, 20, node);
         }
         let k = s.at;
@@ -147,28 +146,24 @@ fn play_core(n: Node, numbers: &[u32]) -> Played
         if is_unborn(p) {
             return ended(t, 21, node);
         }
-        let arrives = s.arrives;
-        if arrives {
+        if s.arrives {
             let r = s.row;
             let row = node.flight[r];
-            let waiting = row.count;
-            if waiting == 0 {
+            if row.count == 0 {
                 return ended(t, 23, node);
             }
             let j = s.from;
             let signal = row.oldest();
             let mail = node.mail[k];
             let e = decisions::arrive(o, j, p, mail.count, signal);
-            let refusal = e.refusal;
-            if refusal != 0 {
-                return ended(t, refusal, node);
+            if e.refusal != 0 {
+                return ended(t, e.refusal, node);
             }
             let q = e.process;
             let next = row.popped();
             node.processes[k] = q;
             node.flight[r] = next;
-            let joins = e.joins;
-            if joins {
+            if e.joins {
                 let message = e.message;
                 let more = mail.joined(message);
                 node.mail[k] = more;
@@ -182,30 +177,28 @@ fn play_core(n: Node, numbers: &[u32]) -> Played
         let x = op_index(b, p.place, 0);
         let op = node.ops[x];
         let e = decisions::run(o, p, len, op);
-        let receives = e.receives;
-        if receives {
-            let c1 = op_index(b, p.place, 1);
-            let c2 = op_index(b, p.place, 2);
-            let c3 = op_index(b, p.place, 3);
-            let c4 = op_index(b, p.place, 4);
-            let c5 = op_index(b, p.place, 5);
-            let c6 = op_index(b, p.place, 6);
-            let c7 = op_index(b, p.place, 7);
-            let c8 = op_index(b, p.place, 8);
-            let o1 = node.ops[c1];
-            let o2 = node.ops[c2];
-            let o3 = node.ops[c3];
-            let o4 = node.ops[c4];
-            let o5 = node.ops[c5];
-            let o6 = node.ops[c6];
-            let o7 = node.ops[c7];
-            let o8 = node.ops[c8];
+        if e.receives {
+            let mut c = op_index(b, p.place, 1);
+            let o1 = node.ops[c];
+            c = op_index(b, p.place, 2);
+            let o2 = node.ops[c];
+            c = op_index(b, p.place, 3);
+            let o3 = node.ops[c];
+            c = op_index(b, p.place, 4);
+            let o4 = node.ops[c];
+            c = op_index(b, p.place, 5);
+            let o5 = node.ops[c];
+            c = op_index(b, p.place, 6);
+            let o6 = node.ops[c];
+            c = op_index(b, p.place, 7);
+            let o7 = node.ops[c];
+            c = op_index(b, p.place, 8);
+            let o8 = node.ops[c];
             let clauses = [o1, o2, o3, o4, o5, o6, o7, o8];
             let mail = node.mail[k];
             let g = receive::receive(p, mail, clauses, op.small);
-            let unfit = g.refusal;
-            if unfit != 0 {
-                return ended(t, unfit, node);
+            if g.refusal != 0 {
+                return ended(t, g.refusal, node);
             }
             let q = g.process;
             let rest = g.mail;
@@ -213,28 +206,24 @@ fn play_core(n: Node, numbers: &[u32]) -> Played
             node.mail[k] = rest;
             continue;
         }
-        let refusal = e.refusal;
-        if refusal != 0 {
-            return ended(t, refusal, node);
+        if e.refusal != 0 {
+            return ended(t, e.refusal, node);
         }
-        let q = e.process;
-        let sends = e.sends;
-        if sends {
+        let moved = e.process;
+        if e.sends {
             let to = e.to;
             let r = row_index(o, to);
             let row = node.flight[r];
-            let full = row.count;
-            if 4 <= full {
+            if 4 <= row.count {
                 return ended(t, 26, node);
             }
             let signal = e.signal;
             let next = row.pushed(signal);
-            node.processes[k] = q;
+            node.processes[k] = moved;
             node.flight[r] = next;
             continue;
         }
-        let spawns = e.spawns;
-        if spawns {
+        if e.spawns {
             let number = e.number;
             let at = process_index(number);
             let old = node.processes[at];
@@ -243,14 +232,14 @@ fn play_core(n: Node, numbers: &[u32]) -> Played
                 let child = Process::fresh(behaviour, Value::Pid(o));
                 let mail = node.mail[at];
                 let none = mail.emptied();
-                node.processes[k] = q;
+                node.processes[k] = moved;
                 node.processes[at] = child;
                 node.mail[at] = none;
                 continue;
             }
             return ended(t, 27, node);
         }
-        node.processes[k] = q;
+        node.processes[k] = moved;
     }
     ended(i, 0, node)
 }
