@@ -5,7 +5,7 @@ use borrow.Author.Needs.{needs}
 use lib.ListN.{drop}
 use Rattle.rules.specs.Nodes.{view}
 use Rattle.text.proofs.Writing.{Left, left-all}
-use Rattle.listing.specs.Listing.{eachFrom, standingText}
+use Rattle.listing_lines.specs.Lines.{eachFrom, standingText}
 use Rattle.listing.proofs.Laws.{left-process, left-processes-end}
 use Rattle.listing.proofs.put_processes.Statement.{statement}
 use Rattle.listing.proofs.put_processes.Tie as tie
