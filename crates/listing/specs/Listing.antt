@@ -3,6 +3,7 @@
 --   rowsText j rows       the signals in flight from j
 --   listingText v         the listing of document 01's node v
 --   listingOf n           the listing of the record n
+--   longest               no sound node has a longer listing
 use mathlib.Core.List.{List, _++_}
 use Prim.Native.Nat.{ℕ}
 use Rattle.node.specs.declared.Node.{Node}
@@ -18,3 +19,7 @@ listingText v = eachFrom standingText 1 (v .processes) ++ eachFrom rowsText 1 (v
 
 unfoldable pub listingOf : Node → List ℕ
 listingOf n = listingText (view n)
+
+-- 16 processes of at most 529 bytes and 256 pairs of at most 123: a buffer of this length holds the listing of every sound node
+abbrev pub longest : ℕ
+longest = 39952
