@@ -67,10 +67,10 @@ fn put_processes(out: &mut [u8], at: usize, n: Node) -> usize
     ensures { λ e. ⌜ Wrote (now (out .entry)) at (eachFrom standingText 1 (view n .processes)) (now (out .exit)) e ⌝ }
 {
     let mut e = at;
-    let mut k = 0;
-    while k < 16 {
-        e = put_process(out, e, (k as u64) + 1, n.processes[k], n.mail[k]);
-        k += 1;
+    let mut i = 0;
+    while i < 16 {
+        e = put_process(out, e, (i as u64) + 1, n.processes[i], n.mail[i]);
+        i += 1;
     }
     e
 }
