@@ -2,10 +2,9 @@
 --   listing-equal    equal nodes have equal listings
 --   listing-short    the listing of a sound node has at most `longest` bytes
 --   listing-told     so a buffer of that length takes it
-use mathlib.Core.Bool.{_&&_}
 use mathlib.Core.List.{List, _++_, map}
 use mathlib.Core.Path.{_≡_, ap}
-use Prim.Native.Nat.{ℕ, _≤_, _<_}
+use Prim.Native.Nat.{ℕ, _*_, _≤_}
 use native.Mathlib.Omega.{arith}
 use borrow.Author.Tests.{leb-true, le-ltb}
 use lib.Dec.{leb}
@@ -16,7 +15,7 @@ use Rattle.rules.proofs.All.{parts}
 use Rattle.rules.proofs.Kept.{parts-of, number-of}
 use Rattle.rules.specs.Nodes.{process, mailbox, row, standing, view, behavioursOf, Equal, Sound}
 use Rattle.rules.specs.Values.{numbers}
-use Rattle.listing_lines.proofs.Longest.{Within, _⊕_, made-within, standing-within, pair-within}
+use Rattle.listing_lines.proofs.Longest.{Within, _⊕_, made-within, longestProcess, standing-within, longestPair, pair-within}
 use Rattle.listing_lines.specs.Lines.{standingText, pairText}
 use Rattle.listing.specs.Answers.{told, shown}
 use Rattle.listing.specs.Listing.{rowsText, listingText, listingOf, longest}
@@ -32,10 +31,10 @@ module _ (n : Node) (sound : Sound n) where
       let p = parts-of n sound in
       let count = length (behavioursOf n) in
       let few = leb-true count 8 (parts (leb 1 count) (leb count 8) (p .few) .1) in
-      made-within standingText (λ i. standing (process n i) (mailbox n i)) 529 1 16 (λ i a b.
+      made-within standingText (λ i. standing (process n i) (mailbox n i)) longestProcess 1 16 (λ i a b.
       standing-within (behavioursOf n) few (p .codes) i (omega arith) (process n i) (mailbox n i) (p .processes i (number-of i a b)))
-      ⊕ made-within rowsText (λ j. map (λ i. signals (row n j i)) numbers) 1968 1 16 (λ j a b.
-      made-within (pairText j) (λ i. signals (row n j i)) 123 1 16 (λ i c d.
+      ⊕ made-within rowsText (λ j. map (λ i. signals (row n j i)) numbers) (16 * longestPair) 1 16 (λ j a b.
+      made-within (pairText j) (λ i. signals (row n j i)) longestPair 1 16 (λ i c d.
       pair-within j i (omega arith) (omega arith) (signals (row n j i)) (p .rows j i (number-of j a b) (number-of i c d))))
 
   pub listing-short : length (listingOf n) ≤ longest

@@ -2,8 +2,8 @@
 --   Within s k          s has at most k bytes;  _⊕_ joins two texts
 --   each-within         the texts of a list of which each passes a test
 --   made-within         the texts of a list made over i, i + 1, ..
---   standing-within     a process
---   pair-within         the signals of a pair
+--   longestProcess      what the text of a process has at most;  standing-within  it does
+--   longestPair         what the text of a pair has at most;  pair-within  it does
 use mathlib.Core.Bool.{Bool, true, false, So, _&&_, not}
 use mathlib.Core.List.{List, [], _∷_, _++_, map}
 use mathlib.Core.Path.{_≡_, refl, subst}
@@ -146,6 +146,10 @@ mail-within ms few h =
     ⊕ loosely 352 (omega arith) (each-within messageLine messageSound 22 message-within ms h)
 
 -- ---- processes
+-- a live process with 16 notes in its mailbox
+abbrev pub longestProcess : ℕ
+longestProcess = 529
+
 register-within : (k : ℕ) → k < 10 → (v : Value) → So (valueSound v) → Within (registerLine k v) 16
 unfolding registerLine valueLine
 register-within k low v h = exactly (114 ∷ []) ⊕ one-digit k low ⊕ exactly (61 ∷ []) ⊕ value-within v h ⊕ exactly lineEnd
@@ -170,7 +174,7 @@ module _ (codes : List (List Instruction)) (few : length codes ≤ 8) (checked :
       omega arith
 
   module _ (i : ℕ) (low : i < 100) (p : Process) (m : Mailbox) where
-    live-within : Alive codes i p m → Within (standingText i (live (running p m))) 529
+    live-within : Alive codes i p m → Within (standingText i (live (running p m))) longestProcess
     unfolding standingText eachFrom
     live-within a =
         let b = behaviour-low (p .behaviour .0) (a .placed .known) in
@@ -187,22 +191,26 @@ module _ (codes : List (List Instruction)) (few : length codes ≤ 8) (checked :
         ⊕ mail-within (messages m) (leb-true (length (messages m)) 16 (a .mailed .few)) (a .mailed .sound)
 
     module _ (h : So (standingSound codes i (standing p m))) where
-      stage-within : (s : Stage) → p .stage ≡ s → Within (standingText i (standingIn s p m)) 529
+      stage-within : (s : Stage) → p .stage ≡ s → Within (standingText i (standingIn s p m)) longestProcess
       unfolding standingText standing
-      stage-within Unborn e = loosely 529 (omega arith) (exactly [])
+      stage-within Unborn e = loosely longestProcess (omega arith) (exactly [])
       stage-within Live e = live-within (alive codes i p m e h)
       stage-within Closing e =
           let g : So (standingSound codes i (standingIn Closing p m)) = subst (λ (s : Stage). So (standingSound codes i (standingIn s p m))) e h in
           let t = parts (valueSound (p .reason)) (not (linkSet p i)) g in
-          loosely 529 (omega arith)
+          loosely longestProcess (omega arith)
           (numberLine-within processKey i (two-digits i low) ⊕ exactly closingLine ⊕ valueLine-within reasonKey (p .reason) (t .0) ⊕ links-within (linkSet p))
-      stage-within Gone e = loosely 529 (omega arith) (numberLine-within processKey i (two-digits i low) ⊕ exactly goneLine)
+      stage-within Gone e = loosely longestProcess (omega arith) (numberLine-within processKey i (two-digits i low) ⊕ exactly goneLine)
 
-      pub standing-within : Within (standingText i (standing p m)) 529
+      pub standing-within : Within (standingText i (standing p m)) longestProcess
       unfolding standing
       standing-within = stage-within (p .stage) refl
 
 -- ---- pairs
+-- four exit signals
+abbrev pub longestPair : ℕ
+longestPair = 123
+
 signal-within : (j i : ℕ) (x : Signal) → So (signalSound j i x) → Within (signalLine x) 27
 unfolding signalLine
 signal-within j i (Msg v) h = loosely 27 (omega arith) (valueLine-within msgKey v h)
@@ -210,9 +218,9 @@ signal-within j i (Exit v b) h = exactly exitKey ⊕ value-within v h ⊕ exactl
 signal-within j i Link h = loosely 27 (omega arith) (exactly linkLine)
 signal-within j i Unlink h = loosely 27 (omega arith) (exactly unlinkLine)
 
-pub pair-within : (j i : ℕ) → j < 100 → i < 100 → (xs : List Signal) → So (rowSound j i xs) → Within (pairText j i xs) 123
+pub pair-within : (j i : ℕ) → j < 100 → i < 100 → (xs : List Signal) → So (rowSound j i xs) → Within (pairText j i xs) longestPair
 unfolding pairText flightLine rowSound
-pair-within j i g h [] s = loosely 123 (omega arith) (exactly [])
+pair-within j i g h [] s = loosely longestPair (omega arith) (exactly [])
 pair-within j i g h (x ∷ xs) s =
     let t = parts (leb (length (x ∷ xs)) 4) (allOf (signalSound j i) (x ∷ xs)) s in
     let few = leb-true (length (x ∷ xs)) 4 (t .0) in

@@ -11,7 +11,6 @@ use node::Mailbox;
 use node::Message;
 use node::Op;
 use node::Process;
-use node::ProcessNumber;
 use node::Value;
 
 // What a search finds: the index of the message and that of the clause that takes it, or nothing.
