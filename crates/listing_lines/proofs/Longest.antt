@@ -25,12 +25,12 @@ use Rattle.node.specs.declared.Stage.the-variants.{Unborn, Live, Closing, Gone}
 use Rattle.node.specs.declared.Stage.{Stage}
 use Rattle.node.specs.declared.Value.the-variants.{Int, Atom, Pid}
 use Rattle.node.specs.declared.Value.{Value}
-use Rattle.node.specs.Lists.{rising, allFrom, allOf}
+use Rattle.node.specs.Lists.{rising, allOf}
 use Rattle.node.specs.Mailboxes.{messages}
 use Rattle.rules.proofs.All.{parts, allOf-at}
-use Rattle.rules.proofs.Keep.{Placed, Alive, alive}
+use Rattle.rules.proofs.Keep.{Placed, Alive, alive, code-short}
 use Rattle.rules.proofs.Records.{number-bounds}
-use Rattle.rules.specs.Behaviours.{Instruction, inRange, wellPlaced, codeSound}
+use Rattle.rules.specs.Behaviours.{Instruction, codeSound}
 use Rattle.rules.specs.Nodes.{live, running, linkSet, standing, standingIn, standingSound, signalSound, rowSound}
 use Rattle.rules.specs.Values.{numbers, isNumber, fitsInt, valueSound, messageSound}
 use Rattle.text.proofs.Digits.{digits-length}
@@ -153,13 +153,6 @@ longestProcess = 529
 register-within : (k : ℕ) → k < 10 → (v : Value) → So (valueSound v) → Within (registerLine k v) 16
 unfolding registerLine valueLine
 register-within k low v h = exactly (114 ∷ []) ⊕ one-digit k low ⊕ exactly (61 ∷ []) ⊕ value-within v h ⊕ exactly lineEnd
-
-code-short : (c : ℕ) (code : List Instruction) → So (codeSound c code) → length code ≤ 32
-unfolding codeSound
-code-short c code h =
-    let f : ℕ → Instruction → Bool = λ t x. inRange c (length code) x && wellPlaced code t x in
-    let t = parts (leb 1 (length code) && leb (length code) 32) (allFrom f 0 code) h in
-    leb-true (length code) 32 (parts (leb 1 (length code)) (leb (length code) 32) (t .0) .1)
 
 -- the behaviours of a sound node are 8 at most, of 32 ops at most
 module _ (codes : List (List Instruction)) (few : length codes ≤ 8) (checked : So (allOf (codeSound (length codes)) codes)) where

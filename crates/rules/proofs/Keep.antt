@@ -257,6 +257,13 @@ well-placed code t x h =
     record { recv = u .0; clause = u .1; targets = w .1 }
 
 module _ (c : ℕ) (code : List Instruction) (h : So (codeSound c code)) where
+  pub code-short : length code ≤ 32
+  unfolding codeSound
+  code-short =
+      let f : ℕ → Instruction → Bool = λ t x. inRange c (length code) x && wellPlaced code t x in
+      let w = parts (leb 1 (length code) && leb (length code) 32) (allFrom f 0 code) h in
+      leb-true (length code) 32 (parts (leb 1 (length code)) (leb (length code) 32) (w .0) .1)
+
   op-sound : (t : ℕ) → t < length code → So (inRange c (length code) (getD code t noInstruction)) × WellPlaced code t (getD code t noInstruction)
   unfolding codeSound
   op-sound t g =
@@ -429,11 +436,7 @@ module _ (codes : List (List Instruction)) (i : ℕ) (number : So (isNumber i)) 
   size = length-map ops instruction
 
   size-32 : length ops ≤ 32
-  unfolding codeSound
-  size-32 =
-      let f : ℕ → Instruction → Bool = λ t x. inRange (length codes) (length whole) x && wellPlaced whole t x in
-      let w = parts (leb 1 (length whole) && leb (length whole) 32) (allFrom f 0 whole) checked in
-      rw size at (leb-true (length whole) 32 (parts (leb 1 (length whole)) (leb (length whole) 32) (w .0) .1))
+  size-32 = rw size at (code-short (length codes) whole checked)
 
   not-clause : isClause (instruction here) ≡ false
   not-clause = not-true _ (rw (same, op-at (length codes) ops checked t inside) at (a .placed .off))
