@@ -1,19 +1,17 @@
 // The local decision of a step: what a process does at a run or at an arrival, from small values alone.
 ghost use mathlib.Core.Path.{_≡_};
 ghost use mathlib.Core.List.{List};
-ghost use mathlib.Core.Bool.{true, false, _&&_};
+ghost use mathlib.Core.Bool.{true, false, not, _&&_};
 ghost use Prim.Native.Nat.{ℕ};
 ghost use lib.Dec.{eqb};
 ghost use lib.IntN.{_+ℤ_};
-ghost use lib.ListN.{length, getD};
 ghost use Rattle.node.specs.declared.Mailbox.{Mailbox};
 ghost use Rattle.node.specs.declared.Op.{Op};
 ghost use Rattle.node.specs.declared.Stage.the-variants.{Live};
 ghost use Rattle.node.specs.declared.Signal.the-variants.{Msg, Exit, Link, Unlink};
 ghost use Rattle.node.specs.declared.Value.the-variants.{Int};
-ghost use Rattle.node.specs.Nodes.{noOp};
-ghost use Rattle.node.specs.Processes.{register, moved, advanced, trapped, linked, unlinked};
-ghost use Rattle.node.specs.Values.{pid, normal};
+ghost use Rattle.node.specs.Processes.{register, moved, advanced, trapped, linked, unlinked, ended};
+ghost use Rattle.node.specs.Values.{pid, normal, badarg};
 ghost use Rattle.rules.specs.Effects.{becomes, ends, sends};
 ghost use Rattle.rules.specs.Run.{setsRegister, jumpsIf, adds, compares, toProcess, toOther, spawns, runsOp, closes, runsLive, runs};
 ghost use Rattle.rules.specs.Arrive.{joinsWith, notes, exits, takes, arrives};
@@ -187,13 +185,20 @@ fn run_add(p: Process, op: Op) -> Effect
     }
 }
 
-// A signal to the process that v names; where it names none the process ends, and no pair is looked at.
+// The end of a process whose op finds a value of the wrong kind. It is an effect and no refusal, so no pair is looked at.
+fn end_badarg(p: Process) -> Effect
+    ensures { λ e. ⌜ e ≡ becomesEffect (ended p badarg) ⌝ }
+{
+    Effect::refuses(p.ended(Value::BADARG), 0)
+}
+
+// A signal to the process that v names; where it names none the process ends.
 fn send_to(p: Process, v: Value, x: Signal) -> Effect
     ensures { λ e. ⌜ ((i : ℕ) → Says i e p (λ st. toProcess st v (λ j. sends st (advanced p) j x))) ⌝ }
 {
     match v {
-        Value::Int(_) => Effect::becomes(p.ended(Value::BADARG)),
-        Value::Atom(_) => Effect::becomes(p.ended(Value::BADARG)),
+        Value::Int(_) => end_badarg(p),
+        Value::Atom(_) => end_badarg(p),
         Value::Pid(j) => Effect::sends(p.advanced(), j, x),
     }
 }
@@ -219,8 +224,8 @@ fn run_link(i: ProcessNumber, p: Process, op: Op) -> Effect
 {
     let v = p.register(op.r);
     match v {
-        Value::Int(_) => Effect::becomes(p.ended(Value::BADARG)),
-        Value::Atom(_) => Effect::becomes(p.ended(Value::BADARG)),
+        Value::Int(_) => end_badarg(p),
+        Value::Atom(_) => end_badarg(p),
         Value::Pid(j) => {
             if j.0 == i.0 {
                 return Effect::becomes(p.advanced());
@@ -235,8 +240,8 @@ fn run_unlink(i: ProcessNumber, p: Process, op: Op) -> Effect
 {
     let v = p.register(op.r);
     match v {
-        Value::Int(_) => Effect::becomes(p.ended(Value::BADARG)),
-        Value::Atom(_) => Effect::becomes(p.ended(Value::BADARG)),
+        Value::Int(_) => end_badarg(p),
+        Value::Atom(_) => end_badarg(p),
         Value::Pid(j) => {
             if j.0 == i.0 {
                 return Effect::becomes(p.advanced());
@@ -331,7 +336,7 @@ fn run_less(p: Process, op: Op) -> Effect
     let w = p.register(op.s);
     let both = integers(v, w);
     match both {
-        Pair::Not => Effect::becomes(p.ended(Value::BADARG)),
+        Pair::Not => end_badarg(p),
         Pair::Both(x, y) => jump_if(p, x < y, op.target),
     }
 }
@@ -455,6 +460,15 @@ fn note(j: ProcessNumber, p: Process, count: u8, v: Value, b: bool) -> Effect
     join(p, count, Message::Note(j, v))
 }
 
+// Line 4: the reason is normal, and j is not i.
+fn drops_normal(i: ProcessNumber, j: ProcessNumber, v: Value) -> bool
+    ensures { λ r. ⌜ r ≡ (sameValue v normal && not (eqb (j .0) (i .0))) ⌝ }
+{
+    let normal = same_value(v, Value::NORMAL);
+    let own = j.0 == i.0;
+    both(normal, !own)
+}
+
 // An exit signal from j: the first of document 01's five lines that applies.
 fn exit(i: ProcessNumber, j: ProcessNumber, p: Process, count: u8, v: Value, b: bool) -> Effect
     ensures { λ e. ⌜ ((m : Mailbox) → m .count ≡ count → arrivalOf e m ≡ exits (i .0) (j .0) (stateOf p m) v b) ⌝ }
@@ -471,9 +485,7 @@ fn exit(i: ProcessNumber, j: ProcessNumber, p: Process, count: u8, v: Value, b: 
     if trap {
         return note(j, p, count, v, b);
     }
-    let normal = same_value(v, Value::NORMAL);
-    let own = j.0 == i.0;
-    if both(normal, !own) {
+    if drops_normal(i, j, v) {
         return Effect::becomes(p);
     }
     Effect::becomes(p.ended(v))

@@ -23,7 +23,8 @@ use Rattle.rules.specs.Steps.{run, arrive, play, played, step, rule, ready, com
 use Rattle.rules.specs.Values.{isNumber, fitsInt}
 use Rattle.text.specs.Values.{numberText, valueText}
 use Rattle.text.specs.Writing.{digitsIn, digits, intText, each}
-use Rattle.listing.specs.Listing.{numberLine, valueLine, eachFrom, members, withCommas, linksLine, registerLine, messageLine, mailText, standingText, signalLine, flightLine, pairText, rowsText, listingText, listingOf}
+use Rattle.listing_lines.specs.Lines.{numberLine, valueLine, eachFrom, members, withCommas, linksLine, registerLine, messageLine, mailText, standingText, signalLine, flightLine, pairText}
+use Rattle.listing.specs.Listing.{rowsText, listingText, listingOf}
 
 -- after run=1 three times, arrive=2,1, run=2
 pub sample-listing :

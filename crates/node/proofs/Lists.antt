@@ -6,7 +6,7 @@ use Prim.Native.Nat.{ℕ, zero, suc, _+_, _-_, _≤_, _<_}
 use native.Mathlib.Nat.{add-zero, le-of-suc-le-suc, not-suc-le-zero, suc-add, zero-add}
 use native.Mathlib.Numerals.{add-one}
 use native.Mathlib.Omega.{arith}
-use lib.ListN.{length, getD, take, drop, set, length-append, length-map, drop-of-length-le, List·getD-map}
+use lib.ListN.{length, getD, take, drop, set, length-append, length-map, drop-of-length-le, List·getD-map, List·getD-eq-default}
 use lib.Seq.{drop-cons}
 use Rattle.node.specs.Lists.{firsts, leave, rising, allFrom, allOf, allTwo}
 
@@ -47,6 +47,10 @@ module _ {A : Type 0} where
   firsts-leave d n zero (x ∷ l) h g = firsts-behind d n l
   firsts-leave d zero (suc k) (x ∷ l) h g = absurd (not-suc-le-zero h)
   firsts-leave d (suc n) (suc k) (x ∷ l) h g = ap (λ (r : List A). x ∷ r) (firsts-leave d n k l (le-of-suc-le-suc h) (le-of-suc-le-suc g))
+
+  -- what is read past the elements
+  pub past-blank : {B : Type 0} (f : A → B) (d : A) (l : List A) (k : ℕ) → length l ≤ k → f d ≡ f (getD l k d)
+  past-blank f d l k h = sym (ap f (List·getD-eq-default l d {n = k} h))
 
   pub leave-length : (d : A) (k : ℕ) (l : List A) → length (leave d k l) ≡ length l
   leave-length d k [] = refl

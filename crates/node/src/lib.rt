@@ -4,8 +4,8 @@ ghost use Prim.Native.Nat.{_+_, _-_, min};
 ghost use lib.ListN.{getD, set};
 ghost use Rattle.node.specs.Ops.{operandCounts, operandKind, stopOp};
 ghost use Rattle.node.specs.Processes.{unborn, fresh, register, withRegister, moved, advanced, trapped, linksTo, linked, unlinked, ended, gone, withRegisters, withLinks, withStage};
-ghost use Rattle.node.specs.Mailboxes.{emptyMailbox, joined, without, emptied};
-ghost use Rattle.node.specs.Rows.{emptyRow, oldest, pushed, popped};
+ghost use Rattle.node.specs.Mailboxes.{noMessage, emptyMailbox, joined, without, emptied};
+ghost use Rattle.node.specs.Rows.{noSignal, emptyRow, oldest, pushed, popped};
 ghost use Rattle.node.specs.Nodes.{blankNode, noOp};
 
 // A process number (process identifier), 1 to 16.
@@ -475,6 +475,18 @@ impl Process {
 }
 
 impl Mailbox {
+    // Message k; what is past the slots is blank.
+    pub fn message_at(self, k: u8) -> Message
+        ensures { λ r. ⌜ r ≡ getD (self .slots) k noMessage .message ⌝ }
+    {
+        if k < 16 {
+            let at = k as usize;
+            let slot = self.slots[at];
+            return slot.message;
+        }
+        Message::Plain(Value::ZERO)
+    }
+
     // A message joins, behind the others.
     pub fn joined(mut self, m: Message) -> Mailbox
         ensures { λ r. ⌜ r ≡ joined self m ⌝ }
@@ -550,6 +562,18 @@ impl Row {
     {
         let first = self.cells[0];
         first.signal
+    }
+
+    // Signal k; what is past the cells is blank.
+    pub fn signal_at(self, k: u8) -> Signal
+        ensures { λ r. ⌜ r ≡ getD (self .cells) k noSignal .signal ⌝ }
+    {
+        if k < 4 {
+            let at = k as usize;
+            let cell = self.cells[at];
+            return cell.signal;
+        }
+        Signal::Msg(Value::ZERO)
     }
 
     // A signal is put in flight, behind the others.

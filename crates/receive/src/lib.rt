@@ -2,7 +2,7 @@
 ghost use mathlib.Core.Path.{_≡_};
 ghost use lib.ListN.{take, getD};
 ghost use Prim.Native.Nat.{min};
-ghost use Rattle.node.specs.Mailboxes.{messages, noMessage};
+ghost use Rattle.node.specs.Mailboxes.{messages};
 ghost use Rattle.node.specs.Nodes.{noOp};
 ghost use Rattle.rules.specs.Values.{sameValue};
 ghost use Rattle.rules.specs.Receive.{fits, search, kept, receivesFit};
@@ -11,7 +11,6 @@ use node::Mailbox;
 use node::Message;
 use node::Op;
 use node::Process;
-use node::ProcessNumber;
 use node::Value;
 
 // What a search finds: the index of the message and that of the clause that takes it, or nothing.
@@ -74,19 +73,6 @@ pub fn fits(c: Op, m: Message) -> bool
     }
 }
 
-// Message i of a mailbox; what is past the slots is blank.
-fn message_at(mail: Mailbox, i: u8) -> Message
-    ensures { λ r. ⌜ r ≡ getD (mail .slots) i noMessage .message ⌝ }
-{
-    if i < 16 {
-        let slots = mail.slots;
-        let at = i as usize;
-        let slot = slots[at];
-        return slot.message;
-    }
-    Message::Plain(Value::ZERO)
-}
-
 // A recv has at most 8 clauses.
 fn clause_limit(n: u8) -> u8
     ensures { λ r. ⌜ r ≡ min n 8 ⌝ }
@@ -106,7 +92,7 @@ pub fn search(clauses: [Op; 8], n: u8, mail: Mailbox) -> Found
     let mut found = Found::Nothing;
     let mut i: u8 = 0;
     'messages: while i < count {
-        let m = message_at(mail, i);
+        let m = mail.message_at(i);
         let mut k: u8 = 0;
         while k < limit {
             let at = k as usize;
@@ -151,7 +137,7 @@ pub fn receive(p: Process, mail: Mailbox, clauses: [Op; 8], n: u8) -> Received
 fn taken(p: Process, mail: Mailbox, clauses: [Op; 8], i: u8, k: u8) -> Received
     ensures { λ r. ⌜ answerOf r ≡ receivesFit (stateOf p mail) (fitOf clauses mail (Found.Fit i k)) ⌝ }
 {
-    let m = message_at(mail, i);
+    let m = mail.message_at(i);
     let c = clause_at(clauses, k);
     let next = keep(p, c, m).moved(c.target);
     let rest = mail.without(i);

@@ -76,37 +76,37 @@ pub record Keeps (codes : List (List Instruction)) (i : ℕ) (e : Effect) : Type
 
 -- ---- a live process
 
-abbrev codeOf : List (List Instruction) → ℕ → List Instruction
+abbrev pub codeOf : List (List Instruction) → ℕ → List Instruction
 codeOf codes b = getD codes (b - 1) []
 
 -- behaviour b, at place t
-record Placed (codes : List (List Instruction)) (b t : ℕ) : Type 0 where
-  known : So (leb 1 b && leb b (length codes))
-  within : So (leb t (length (codeOf codes b)))
-  off : So (not (onClause (codeOf codes b) t))
+pub record Placed (codes : List (List Instruction)) (b t : ℕ) : Type 0 where
+  pub known : So (leb 1 b && leb b (length codes))
+  pub within : So (leb t (length (codeOf codes b)))
+  pub off : So (not (onClause (codeOf codes b) t))
 
-record Valued (a b c d : Value) : Type 0 where
-  v0 : So (valueSound a)
-  v1 : So (valueSound b)
-  v2 : So (valueSound c)
-  v3 : So (valueSound d)
+pub record Valued (a b c d : Value) : Type 0 where
+  pub v0 : So (valueSound a)
+  pub v1 : So (valueSound b)
+  pub v2 : So (valueSound c)
+  pub v3 : So (valueSound d)
 
-abbrev Unlinked : ℕ → Process → Type 0
+abbrev pub Unlinked : ℕ → Process → Type 0
 Unlinked i p = So (not (linkSet p i))
 
-record Mailed (m : Mailbox) : Type 0 where
-  few : So (leb (length (messages m)) 16)
-  sound : So (allOf messageSound (messages m))
+pub record Mailed (m : Mailbox) : Type 0 where
+  pub few : So (leb (length (messages m)) 16)
+  pub sound : So (allOf messageSound (messages m))
 
-record Alive (codes : List (List Instruction)) (i : ℕ) (p : Process) (m : Mailbox) : Type 0 where
-  stage : p .stage ≡ Live
-  placed : Placed codes (p .behaviour .0) (p .place)
-  valued : Valued (p .r0) (p .r1) (p .r2) (p .r3)
-  apart : Unlinked i p
-  mailed : Mailed m
+pub record Alive (codes : List (List Instruction)) (i : ℕ) (p : Process) (m : Mailbox) : Type 0 where
+  pub stage : p .stage ≡ Live
+  pub placed : Placed codes (p .behaviour .0) (p .place)
+  pub valued : Valued (p .r0) (p .r1) (p .r2) (p .r3)
+  pub apart : Unlinked i p
+  pub mailed : Mailed m
 
 module _ (codes : List (List Instruction)) (i : ℕ) (p : Process) (m : Mailbox) where
-  alive : p .stage ≡ Live → So (standingSound codes i (standing p m)) → Alive codes i p m
+  pub alive : p .stage ≡ Live → So (standingSound codes i (standing p m)) → Alive codes i p m
   unfolding standing runningSound
   alive e h =
       let t : So (standingSound codes i (standingIn Live p m)) = subst (λ (s : Stage). So (standingSound codes i (standingIn s p m))) e h in
@@ -257,6 +257,13 @@ well-placed code t x h =
     record { recv = u .0; clause = u .1; targets = w .1 }
 
 module _ (c : ℕ) (code : List Instruction) (h : So (codeSound c code)) where
+  pub code-short : length code ≤ 32
+  unfolding codeSound
+  code-short =
+      let f : ℕ → Instruction → Bool = λ t x. inRange c (length code) x && wellPlaced code t x in
+      let w = parts (leb 1 (length code) && leb (length code) 32) (allFrom f 0 code) h in
+      leb-true (length code) 32 (parts (leb 1 (length code)) (leb (length code) 32) (w .0) .1)
+
   op-sound : (t : ℕ) → t < length code → So (inRange c (length code) (getD code t noInstruction)) × WellPlaced code t (getD code t noInstruction)
   unfolding codeSound
   op-sound t g =
@@ -429,11 +436,7 @@ module _ (codes : List (List Instruction)) (i : ℕ) (number : So (isNumber i)) 
   size = length-map ops instruction
 
   size-32 : length ops ≤ 32
-  unfolding codeSound
-  size-32 =
-      let f : ℕ → Instruction → Bool = λ t x. inRange (length codes) (length whole) x && wellPlaced whole t x in
-      let w = parts (leb 1 (length whole) && leb (length whole) 32) (allFrom f 0 whole) checked in
-      rw size at (leb-true (length whole) 32 (parts (leb 1 (length whole)) (leb (length whole) 32) (w .0) .1))
+  size-32 = rw size at (code-short (length codes) whole checked)
 
   not-clause : isClause (instruction here) ≡ false
   not-clause = not-true _ (rw (same, op-at (length codes) ops checked t inside) at (a .placed .off))

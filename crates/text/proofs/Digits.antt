@@ -2,10 +2,12 @@
 use mathlib.Core.Bool.{Bool, true, false}
 use mathlib.Core.List.{List, [], _∷_, _++_}
 use mathlib.Core.Path.{_≡_, refl, ap}
-use Prim.Native.Nat.{ℕ, zero, suc, _+_, _/_, _%_, _≤_, _<_}
+use Prim.Native.Nat.{ℕ, zero, suc, _+_, _/_, _%_, _^_, _≤_, _<_}
+use native.Mathlib.Nat.{pow-suc}
 use native.Mathlib.Omega.{arith}
-use borrow.Author.Tests.{lt-ltb, le-ltb, ltb-false}
+use borrow.Author.Tests.{lt-ltb, le-ltb, ltb-true, ltb-false}
 use lib.Dec.{ltb}
+use lib.ListN.{length, length-append}
 use Rattle.text.specs.Writing.{digitsIn, digits}
 
 -- a bound that is enough is as good as another
@@ -33,3 +35,12 @@ digits-more zero h = let no : ⊥ = omega arith in absurd no
 digits-more (suc n) h =
     rw (le-ltb (suc n) 10 h)
     (ap (λ (l : List ℕ). l ++ ((48 + suc n % 10) ∷ [])) (stable n (suc n / 10) (suc n / 10) (omega arith) (omega arith)))
+
+-- a number below 10 ^ k has at most k digits; 0 has one
+pub digits-length : (k n : ℕ) → n < 10 ^ suc k → length (digits n) ≤ suc k
+digits-length zero n h = rw (digits-one n h) (omega arith)
+digits-length (suc k) n h = by-size (ltb n 10) refl (λ m. digits-length k (n / 10) (omega (arith, pow-suc 10 (suc k))))
+  where
+    by-size : (t : Bool) → ltb n 10 ≡ t → (10 ≤ n → length (digits (n / 10)) ≤ suc k) → length (digits n) ≤ suc (suc k)
+    by-size true e ih = rw (digits-one n (ltb-true n 10 e)) (omega arith)
+    by-size false e ih = let many = ltb-false n 10 e in rw (digits-more n many) (omega (arith, ih many, length-append (digits (n / 10)) ((48 + n % 10) ∷ [])))

@@ -65,11 +65,8 @@ returns-3 c =
     let its-if3 = c .before .if3 in
     λ m e. its-note .ensures m e ∙ rw (← its-links-to .ensures, ← its-both .ensures, its-if1 .left, ← its-same-value .ensures, ← its-both2 .ensures, its-if2 .left, its-if3 .taken)
 
-same-value-requires-2 : tie.Need-same-value-requires-2
-same-value-requires-2 c κs = search needs
-
-both-requires-3 : tie.Need-both-requires-3
-both-requires-3 c κs = search needs
+drops-normal-requires : tie.Need-drops-normal-requires
+drops-normal-requires c κs = search needs
 
 becomes-requires-3 : tie.Need-becomes-requires-3
 becomes-requires-3 c κs = search needs
@@ -78,17 +75,16 @@ returns-4 : tie.Need-returns-4
 unfolding exits
 returns-4 c =
     let its-becomes3 = c .becomes3 in
-    let its-links-to = c .before .before .before .before .before .before .before .before .before .before .before .before .links-to in
-    let its-both = c .before .before .before .before .before .before .before .before .before .before .before .both in
-    let its-if1 = c .before .before .before .before .before .before .before .before .before .before .if1 in
-    let its-same-value = c .before .before .before .before .before .before .before .before .before .same-value in
-    let its-both2 = c .before .before .before .before .before .before .before .before .both2 in
-    let its-if2 = c .before .before .before .before .before .before .before .if2 in
-    let its-if3 = c .before .before .before .before .before .before .if3 in
-    let its-same-value2 = c .before .before .before .before .before .same-value2 in
-    let its-both3 = c .before .before .both3 in
     let its-if4 = c .before .if4 in
-    λ m e. rw (its-becomes3 .ensures, ← its-links-to .ensures, ← its-both .ensures, its-if1 .left, ← its-same-value .ensures, ← its-both2 .ensures, its-if2 .left, its-if3 .left, ← its-same-value2 .ensures, ← its-both3 .ensures, its-if4 .taken)
+    let its-drops-normal = c .before .before .drops-normal in
+    let its-if3 = c .before .before .before .if3 in
+    let its-if2 = c .before .before .before .before .if2 in
+    let its-both2 = c .before .before .before .before .before .both2 in
+    let its-same-value = c .before .before .before .before .before .before .same-value in
+    let its-if1 = c .before .before .before .before .before .before .before .if1 in
+    let its-both = c .before .before .before .before .before .before .before .before .both in
+    let its-links-to = c .before .before .before .before .before .before .before .before .before .links-to in
+    λ m e. rw (its-becomes3 .ensures, ← its-links-to .ensures, ← its-both .ensures, its-if1 .left, ← its-same-value .ensures, ← its-both2 .ensures, its-if2 .left, its-if3 .left, ← its-drops-normal .ensures, its-if4 .taken)
 
 ended-requires-2 : tie.Need-ended-requires-2
 ended-requires-2 c κs = search needs
@@ -101,17 +97,16 @@ unfolding exits
 returns-5 c =
     let its-becomes4 = c .becomes4 in
     let its-ended2 = c .before .ended2 in
-    let its-links-to = c .before .before .before .before .before .before .before .before .before .before .before .before .before .links-to in
-    let its-both = c .before .before .before .before .before .before .before .before .before .before .before .before .both in
-    let its-if1 = c .before .before .before .before .before .before .before .before .before .before .before .if1 in
-    let its-same-value = c .before .before .before .before .before .before .before .before .before .before .same-value in
-    let its-both2 = c .before .before .before .before .before .before .before .before .before .both2 in
-    let its-if2 = c .before .before .before .before .before .before .before .before .if2 in
-    let its-if3 = c .before .before .before .before .before .before .before .if3 in
-    let its-same-value2 = c .before .before .before .before .before .before .same-value2 in
-    let its-both3 = c .before .before .before .both3 in
     let its-if4 = c .before .before .if4 in
-    λ m e. rw (its-becomes4 .ensures, its-ended2 .ensures, ← its-links-to .ensures, ← its-both .ensures, its-if1 .left, ← its-same-value .ensures, ← its-both2 .ensures, its-if2 .left, its-if3 .left, ← its-same-value2 .ensures, ← its-both3 .ensures, its-if4 .left)
+    let its-drops-normal = c .before .before .before .drops-normal in
+    let its-if3 = c .before .before .before .before .if3 in
+    let its-if2 = c .before .before .before .before .before .if2 in
+    let its-both2 = c .before .before .before .before .before .before .both2 in
+    let its-same-value = c .before .before .before .before .before .before .before .same-value in
+    let its-if1 = c .before .before .before .before .before .before .before .before .if1 in
+    let its-both = c .before .before .before .before .before .before .before .before .before .both in
+    let its-links-to = c .before .before .before .before .before .before .before .before .before .before .links-to in
+    λ m e. rw (its-becomes4 .ensures, its-ended2 .ensures, ← its-links-to .ensures, ← its-both .ensures, its-if1 .left, ← its-same-value .ensures, ← its-both2 .ensures, its-if2 .left, its-if3 .left, ← its-drops-normal .ensures, its-if4 .left)
 
 pub exit-spec : {M : Type 1} → statement M
 exit-spec =
@@ -128,8 +123,7 @@ exit-spec =
     returns-2
     note-requires
     returns-3
-    same-value-requires-2
-    both-requires-3
+    drops-normal-requires
     becomes-requires-3
     returns-4
     ended-requires-2

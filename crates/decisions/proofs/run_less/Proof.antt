@@ -20,11 +20,8 @@ integers-requires c κs = search needs
 enum-told : tie.Need-enum-told
 enum-told c = search needs
 
-ended-requires : tie.Need-ended-requires
-ended-requires c κs = search needs
-
-becomes-requires : tie.Need-becomes-requires
-becomes-requires c κs = search needs
+end-badarg-requires : tie.Need-end-badarg-requires
+end-badarg-requires c κs = search needs
 
 enum-known-both : tie.Need-enum-known-both
 enum-known-both c = search needs
@@ -34,14 +31,13 @@ jump-if-requires c κs = search needs
 
 returns : tie.Need-returns
 returns c =
-    let its-becomes = c .becomes in
-    let its-ended = c .before .ended in
-    let its-register = c .before .before .before .before .before .before .register in
-    let its-register2 = c .before .before .before .before .before .register2 in
-    let its-args = c .before .before .before .before .before .before .before .args in
-    let its-integers = c .before .before .before .before .integers in
-    let its-enum-told = c .before .before .enum-told in
-    λ i code o m. rw (its-becomes .ensures, its-ended .ensures, ← its-register .ensures, ← its-register2 .ensures) (sym (compares-not (stateOf (its-args .p) m) (its-args .op .target) (its-register .result) (its-register2 .result) (sym (its-integers .ensures) ∙ its-enum-told .given .1)))
+    let its-end-badarg = c .end-badarg in
+    let its-register = c .before .before .before .before .before .register in
+    let its-register2 = c .before .before .before .before .register2 in
+    let its-args = c .before .before .before .before .before .before .args in
+    let its-integers = c .before .before .before .integers in
+    let its-enum-told = c .before .enum-told in
+    λ i code o m. rw (its-end-badarg .ensures, ← its-register .ensures, ← its-register2 .ensures) (sym (compares-not (stateOf (its-args .p) m) (its-args .op .target) (its-register .result) (its-register2 .result) (sym (its-integers .ensures) ∙ its-enum-told .given .1)))
 
 returns-2 : tie.Need-returns-2
 returns-2 c =
@@ -60,8 +56,7 @@ run-less-spec =
     register-requires-2
     integers-requires
     enum-told
-    ended-requires
-    becomes-requires
+    end-badarg-requires
     enum-known-both
     jump-if-requires
     returns

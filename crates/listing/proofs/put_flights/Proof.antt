@@ -5,7 +5,8 @@ use borrow.Author.Needs.{needs}
 use lib.ListN.{drop}
 use Rattle.rules.specs.Nodes.{view}
 use Rattle.text.proofs.Writing.{Left, left-all}
-use Rattle.listing.specs.Listing.{eachFrom, rowsText}
+use Rattle.listing_lines.specs.Lines.{eachFrom}
+use Rattle.listing.specs.Listing.{rowsText}
 use Rattle.listing.proofs.Laws.{left-row, left-rows-end}
 use Rattle.listing.proofs.put_flights.Statement.{statement}
 use Rattle.listing.proofs.put_flights.Tie as tie

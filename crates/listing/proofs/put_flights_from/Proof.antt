@@ -6,7 +6,8 @@ use borrow.Author.Needs.{needs}
 use lib.ListN.{drop, getD}
 use Rattle.rules.specs.Nodes.{view}
 use Rattle.text.proofs.Writing.{Left, left-all}
-use Rattle.listing.specs.Listing.{eachFrom, pairText, rowsText}
+use Rattle.listing_lines.specs.Lines.{eachFrom, pairText}
+use Rattle.listing.specs.Listing.{rowsText}
 use Rattle.listing.proofs.Laws.{left-pair, left-pairs-end}
 use Rattle.listing.proofs.put_flights_from.Statement.{statement}
 use Rattle.listing.proofs.put_flights_from.Tie as tie

@@ -2,7 +2,7 @@
 use borrow.Author.Needs.{needs}
 use Rattle.text.proofs.Writing.{wrote-length}
 use Rattle.listing.specs.Listing.{listingOf, listingText}
-use Rattle.listing.proofs.Laws.{_▸_}
+use Rattle.listing_lines.proofs.Laws.{_▸_}
 use Rattle.listing.proofs.put_listing.Statement.{statement}
 use Rattle.listing.proofs.put_listing.Tie as tie
 

@@ -1,20 +1,20 @@
--- `put_processes` writes each process with its number. The invariant: what is left to write are the processes from k + 1 on. Assumes nothing.
+-- `put_processes` writes each process with its number. The invariant: what is left to write are the processes from i + 1 on. Assumes nothing.
 use Prim.Native.Nat.{_+_, _-_}
 use native.Mathlib.Omega.{arith}
 use borrow.Author.Needs.{needs}
 use lib.ListN.{drop}
 use Rattle.rules.specs.Nodes.{view}
 use Rattle.text.proofs.Writing.{Left, left-all}
-use Rattle.listing.specs.Listing.{eachFrom, standingText}
+use Rattle.listing_lines.specs.Lines.{eachFrom, standingText}
 use Rattle.listing.proofs.Laws.{left-process, left-processes-end}
 use Rattle.listing.proofs.put_processes.Statement.{statement}
 use Rattle.listing.proofs.put_processes.Tie as tie
 
 abbrev Inv-loop : tie.InvT-loop
-Inv-loop out₀ at n e₀ k₀ out e k = Left out₀ at (eachFrom standingText 1 (view n .processes)) out e (eachFrom standingText (k + 1) (drop k (view n .processes)))
+Inv-loop out₀ at n e₀ i₀ out e i = Left out₀ at (eachFrom standingText 1 (view n .processes)) out e (eachFrom standingText (i + 1) (drop i (view n .processes)))
 
 abbrev μ-loop : tie.MeasureT-loop
-μ-loop out₀ at n e₀ k₀ out e k = 16 - k
+μ-loop out₀ at n e₀ i₀ out e i = 16 - i
 
 loop-holds : tie.Need-loop-holds Inv-loop μ-loop
 loop-holds c = left-all _ _ _ (omega arith) (omega arith)
@@ -37,8 +37,8 @@ element-copy-out-put-process-2 c = search needs
 put-process-requires : tie.Need-put-process-requires Inv-loop μ-loop
 put-process-requires c κs = search needs
 
-add-k : tie.Need-add-k Inv-loop μ-loop
-add-k c = search needs
+add-i : tie.Need-add-i Inv-loop μ-loop
+add-i c = search needs
 
 loop-less : tie.Need-loop-less Inv-loop μ-loop
 loop-less c = search needs
@@ -48,7 +48,7 @@ loop-again c =
     let turn = c .before .before .before .before .before .before .before .loop in
     let test = c .before .before .before .before .before .before .loop-test in
     let put-process = c .before .before .put-process in
-    left-process _ _ (turn .inv) (test .taken) (put-process .ensures)
+    left-process _ _ (turn .inv) (omega (arith, test .taken)) (put-process .ensures)
 
 same-length : tie.Need-same-length Inv-loop μ-loop
 same-length c = c .before .loop .inv .same
@@ -69,7 +69,7 @@ put-processes-spec =
     mul-put-process-2
     element-copy-out-put-process-2
     put-process-requires
-    add-k
+    add-i
     loop-less
     loop-again
     same-length

@@ -1,0 +1,49 @@
+-- What holds of every listing. Assumes nothing.
+--   listing-equal    equal nodes have equal listings
+--   listing-short    the listing of a sound node has at most `longest` bytes
+--   listing-told     so a buffer of that length takes it
+use mathlib.Core.List.{List, _++_, map}
+use mathlib.Core.Path.{_≡_, ap}
+use Prim.Native.Nat.{ℕ, _*_, _≤_}
+use native.Mathlib.Omega.{arith}
+use borrow.Author.Tests.{leb-true, le-ltb}
+use lib.Dec.{leb}
+use lib.ListN.{length, drop}
+use Rattle.node.specs.declared.Node.{Node}
+use Rattle.node.specs.Rows.{signals}
+use Rattle.rules.proofs.All.{parts}
+use Rattle.rules.proofs.Kept.{parts-of, number-of}
+use Rattle.rules.specs.Nodes.{process, mailbox, row, standing, view, behavioursOf, Equal, Sound}
+use Rattle.rules.specs.Values.{numbers}
+use Rattle.listing_lines.proofs.Longest.{Within, _⊕_, made-within, longestProcess, standing-within, longestPair, pair-within}
+use Rattle.listing_lines.specs.Lines.{standingText, pairText}
+use Rattle.listing.specs.Answers.{told, shown}
+use Rattle.listing.specs.Listing.{rowsText, listingText, listingOf, longest}
+
+pub listing-equal : (n m : Node) → Equal n m → listingOf n ≡ listingOf m
+unfolding listingOf
+listing-equal n m e = ap listingText e
+
+module _ (n : Node) (sound : Sound n) where
+  within : Within (listingOf n) longest
+  unfolding listingOf listingText view rowsText
+  within =
+      let p = parts-of n sound in
+      let count = length (behavioursOf n) in
+      let few = leb-true count 8 (parts (leb 1 count) (leb count 8) (p .few) .1) in
+      made-within standingText (λ i. standing (process n i) (mailbox n i)) longestProcess 1 16 (λ i a b.
+      standing-within (behavioursOf n) few (p .codes) i (omega arith) (process n i) (mailbox n i) (p .processes i (number-of i a b)))
+      ⊕ made-within rowsText (λ j. map (λ i. signals (row n j i)) numbers) (16 * longestPair) 1 16 (λ j a b.
+      made-within (pairText j) (λ i. signals (row n j i)) longestPair 1 16 (λ i c d.
+      pair-within j i (omega arith) (omega arith) (signals (row n j i)) (p .rows j i (number-of j a b) (number-of i c d))))
+
+  pub listing-short : length (listingOf n) ≤ longest
+  listing-short = within .most
+
+  -- a buffer of that length is never short
+  pub listing-told : (old : List ℕ) → longest ≤ length old
+      → (told old (listingOf n) ≡ record { number = 0; length = length (listingOf n) }) × (shown old (listingOf n) ≡ listingOf n ++ drop (length (listingOf n)) old)
+  unfolding told shown
+  listing-told old h =
+      let fits = le-ltb (length old) (length (listingOf n)) (omega (arith, listing-short)) in
+      (rw fits, rw fits)

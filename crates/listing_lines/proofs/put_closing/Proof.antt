@@ -1,0 +1,54 @@
+-- `put_closing` writes a closing process: its stage, reason and links. Assumes nothing.
+use borrow.Author.Needs.{needs}
+use Rattle.text.proofs.Writing.{wrote-length}
+use Rattle.listing_lines.specs.Lines.{standingText}
+use Rattle.listing_lines.proofs.Laws.{_▸_}
+use Rattle.listing_lines.proofs.put_closing.Statement.{statement}
+use Rattle.listing_lines.proofs.put_closing.Tie as tie
+
+slice-aggregate-put-number-line : tie.Need-slice-aggregate-put-number-line
+slice-aggregate-put-number-line c = search needs
+
+put-number-line-requires : tie.Need-put-number-line-requires
+put-number-line-requires c κs = search needs
+
+slice-aggregate-put-bytes : tie.Need-slice-aggregate-put-bytes
+slice-aggregate-put-bytes c = search needs
+
+put-bytes-requires : tie.Need-put-bytes-requires
+put-bytes-requires c κs = search needs
+
+slice-aggregate-put-value-line : tie.Need-slice-aggregate-put-value-line
+slice-aggregate-put-value-line c = search needs
+
+put-value-line-requires : tie.Need-put-value-line-requires
+put-value-line-requires c κs = search needs
+
+put-links-requires : tie.Need-put-links-requires
+put-links-requires c κs = search needs
+
+returns : tie.Need-returns
+unfolding standingText
+returns c =
+    let links = c .before .before in
+    let value-line = links .before .before .before .before in
+    let bytes = value-line .before .before .before .before .before in
+    let number-line = bytes .before .before .before .before .before in
+    number-line .put-number-line .ensures ▸ bytes .put-bytes .ensures ▸ value-line .put-value-line .ensures ▸ links .put-links .ensures
+
+same-length : tie.Need-same-length
+same-length c = wrote-length (returns c)
+
+pub put-closing-spec : {M : Type 1} → statement M
+put-closing-spec =
+    tie.close
+    (tie.spec
+    slice-aggregate-put-number-line
+    put-number-line-requires
+    slice-aggregate-put-bytes
+    put-bytes-requires
+    slice-aggregate-put-value-line
+    put-value-line-requires
+    put-links-requires
+    same-length
+    returns)

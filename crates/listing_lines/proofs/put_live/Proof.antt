@@ -1,0 +1,98 @@
+-- `put_live` writes a live process: its stage, then what it holds. Assumes nothing.
+use mathlib.Core.Path.{ap}
+use borrow.Author.Needs.{needs}
+use Rattle.text.proofs.Writing.{wrote-length}
+use Rattle.listing_lines.specs.Lines.{numberLine, standingText}
+use Rattle.listing_lines.specs.Words.{trapKey}
+use Rattle.listing_lines.proofs.Laws.{_▸_, wrote-as}
+use Rattle.listing_lines.proofs.put_live.Statement.{statement}
+use Rattle.listing_lines.proofs.put_live.Tie as tie
+
+slice-aggregate-put-number-line : tie.Need-slice-aggregate-put-number-line
+slice-aggregate-put-number-line c = search needs
+
+put-number-line-requires : tie.Need-put-number-line-requires
+put-number-line-requires c κs = search needs
+
+slice-aggregate-put-bytes : tie.Need-slice-aggregate-put-bytes
+slice-aggregate-put-bytes c = search needs
+
+put-bytes-requires : tie.Need-put-bytes-requires
+put-bytes-requires c κs = search needs
+
+slice-aggregate-put-number-line-2 : tie.Need-slice-aggregate-put-number-line-2
+slice-aggregate-put-number-line-2 c = search needs
+
+cast-put-number-line : tie.Need-cast-put-number-line
+cast-put-number-line c = search needs
+
+put-number-line-requires-2 : tie.Need-put-number-line-requires-2
+put-number-line-requires-2 c κs = search needs
+
+slice-aggregate-put-number-line-3 : tie.Need-slice-aggregate-put-number-line-3
+slice-aggregate-put-number-line-3 c = search needs
+
+cast-put-number-line-2 : tie.Need-cast-put-number-line-2
+cast-put-number-line-2 c = search needs
+
+put-number-line-requires-3 : tie.Need-put-number-line-requires-3
+put-number-line-requires-3 c κs = search needs
+
+put-registers-requires : tie.Need-put-registers-requires
+put-registers-requires c κs = search needs
+
+slice-aggregate-put-number-line-4 : tie.Need-slice-aggregate-put-number-line-4
+slice-aggregate-put-number-line-4 c = search needs
+
+flag-requires : tie.Need-flag-requires
+flag-requires c κs = search needs
+
+put-number-line-requires-4 : tie.Need-put-number-line-requires-4
+put-number-line-requires-4 c κs = search needs
+
+put-links-requires : tie.Need-put-links-requires
+put-links-requires c κs = search needs
+
+put-mail-requires : tie.Need-put-mail-requires
+put-mail-requires c κs = search needs
+
+returns : tie.Need-returns
+unfolding standingText
+returns c =
+    let mail = c .before .before in
+    let links = mail .before .before .before .before in
+    let number-line4 = links .before .before .before .before in
+    let at-flag = number-line4 .before in
+    let registers = at-flag .before .before .before .before .before in
+    let number-line3 = registers .before .before .before .before in
+    let number-line2 = number-line3 .before .before .before .before .before .before in
+    let bytes = number-line2 .before .before .before .before .before .before in
+    let number-line = bytes .before .before .before .before .before in
+    number-line .put-number-line .ensures ▸ bytes .put-bytes .ensures ▸ number-line2 .put-number-line2 .ensures ▸ number-line3 .put-number-line3 .ensures
+    ▸ registers .put-registers .ensures ▸ wrote-as (ap (numberLine trapKey) (at-flag .flag .ensures)) (number-line4 .put-number-line4 .ensures) ▸ links .put-links .ensures ▸ mail .put-mail .ensures
+
+same-length : tie.Need-same-length
+same-length c = wrote-length (returns c)
+
+pub put-live-spec : {M : Type 1} → statement M
+put-live-spec =
+    tie.close
+    (tie.spec
+    slice-aggregate-put-number-line
+    put-number-line-requires
+    slice-aggregate-put-bytes
+    put-bytes-requires
+    slice-aggregate-put-number-line-2
+    cast-put-number-line
+    put-number-line-requires-2
+    slice-aggregate-put-number-line-3
+    cast-put-number-line-2
+    put-number-line-requires-3
+    put-registers-requires
+    slice-aggregate-put-number-line-4
+    flag-requires
+    put-number-line-requires-4
+    put-links-requires
+    put-mail-requires
+    same-length
+    returns)

@@ -1,0 +1,51 @@
+-- `put_note` writes a note: the sender with its letter, then the reason. Assumes nothing.
+use borrow.Author.Needs.{needs}
+use Rattle.text.proofs.Writing.{wrote-length}
+use Rattle.listing_lines.specs.Lines.{messageLine}
+use Rattle.listing_lines.proofs.Laws.{_▸_}
+use Rattle.listing_lines.proofs.put_note.Statement.{statement}
+use Rattle.listing_lines.proofs.put_note.Tie as tie
+
+slice-aggregate-put-bytes : tie.Need-slice-aggregate-put-bytes
+slice-aggregate-put-bytes c = search needs
+
+put-bytes-requires : tie.Need-put-bytes-requires
+put-bytes-requires c κs = search needs
+
+put-value-requires : tie.Need-put-value-requires
+put-value-requires c κs = search needs
+
+put-byte-requires : tie.Need-put-byte-requires
+put-byte-requires c κs = search needs
+
+put-value-requires-2 : tie.Need-put-value-requires-2
+put-value-requires-2 c κs = search needs
+
+put-byte-requires-2 : tie.Need-put-byte-requires-2
+put-byte-requires-2 c κs = search needs
+
+returns : tie.Need-returns
+unfolding messageLine
+returns c =
+    let byte2 = c .before .before in
+    let value2 = byte2 .before .before .before .before in
+    let byte = value2 .before .before .before .before in
+    let value = byte .before .before .before .before in
+    let bytes = value .before .before .before .before in
+    bytes .put-bytes .ensures ▸ value .put-value .ensures ▸ byte .put-byte .ensures ▸ value2 .put-value2 .ensures ▸ byte2 .put-byte2 .ensures
+
+same-length : tie.Need-same-length
+same-length c = wrote-length (returns c)
+
+pub put-note-spec : {M : Type 1} → statement M
+put-note-spec =
+    tie.close
+    (tie.spec
+    slice-aggregate-put-bytes
+    put-bytes-requires
+    put-value-requires
+    put-byte-requires
+    put-value-requires-2
+    put-byte-requires-2
+    same-length
+    returns)

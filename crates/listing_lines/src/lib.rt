@@ -1,0 +1,238 @@
+// The lines of the listing, written into a lent buffer: each writer below writes one piece of its grammar.
+// Run over an empty slice a writer counts.
+use node::Mailbox;
+use node::Message;
+use node::Process;
+use node::ProcessNumber;
+use node::Row;
+use node::Signal;
+use node::Stage;
+use node::Value;
+use text::put_byte;
+use text::put_bytes;
+use text::put_number;
+use text::put_value;
+ghost use mathlib.Core.Bool.{cond};
+ghost use mathlib.Core.List.{[], _∷_, _++_};
+ghost use mathlib.Core.Path.{_≡_};
+ghost use Rattle.node.specs.Mailboxes.{messages};
+ghost use Rattle.node.specs.Rows.{signals};
+ghost use Rattle.rules.specs.Nodes.{linkSet, running, live, closing, gone, standing};
+ghost use Rattle.rules.specs.Values.{numbers};
+ghost use Rattle.text.specs.Writing.{Wrote, digits, each};
+ghost use Rattle.listing_lines.specs.Lines.{comma, numberLine, valueLine, eachFrom, flag, members, withCommas, linksLine, registerLine, messageLine, mailText, standingText, signalLine, flightLine, pairText};
+
+// Process i with its mailbox; an unborn process has no text.
+pub fn put_process(out: &mut [u8], at: usize, i: u64, p: Process, m: Mailbox) -> usize
+    ensures { λ e. ⌜ Wrote (now (out .entry)) at (standingText i (standing p m)) (now (out .exit)) e ⌝ }
+{
+    let stage = p.stage;
+    match stage {
+        Stage::Unborn => at,
+        Stage::Live => put_live(out, at, i, p, m),
+        Stage::Closing => put_closing(out, at, i, p),
+        Stage::Gone => put_gone(out, at, i),
+    }
+}
+
+// The signals in flight from process j to process i; a pair with none has no text.
+pub fn put_pair(out: &mut [u8], at: usize, j: u64, i: u64, r: Row) -> usize
+    ensures { λ e. ⌜ Wrote (now (out .entry)) at (pairText j i (signals r)) (now (out .exit)) e ⌝ }
+{
+    let count = r.count;
+    if count == 0 {
+        return at;
+    }
+    let e = put_flight_line(out, at, j, i, count as u64);
+    put_signals(out, e, r)
+}
+
+fn put_live(out: &mut [u8], at: usize, i: u64, p: Process, m: Mailbox) -> usize
+    ensures { λ e. ⌜ Wrote (now (out .entry)) at (standingText i (live (running p m))) (now (out .exit)) e ⌝ }
+{
+    let e = put_number_line(out, at, b"process=", i);
+    let e = put_bytes(out, e, b"stage=live\n");
+    let e = put_number_line(out, e, b"behaviour=", p.behaviour.0 as u64);
+    let e = put_number_line(out, e, b"place=", p.place as u64);
+    let e = put_registers(out, e, p);
+    let e = put_number_line(out, e, b"trap=", flag(p.trap));
+    let e = put_links(out, e, p);
+    put_mail(out, e, m)
+}
+
+fn put_closing(out: &mut [u8], at: usize, i: u64, p: Process) -> usize
+    ensures { λ e. ⌜ Wrote (now (out .entry)) at (standingText i (closing (p .reason) (linkSet p))) (now (out .exit)) e ⌝ }
+{
+    let reason = p.reason;
+    let e = put_number_line(out, at, b"process=", i);
+    let e = put_bytes(out, e, b"stage=closing\n");
+    let e = put_value_line(out, e, b"reason=", reason);
+    put_links(out, e, p)
+}
+
+fn put_gone(out: &mut [u8], at: usize, i: u64) -> usize
+    ensures { λ e. ⌜ Wrote (now (out .entry)) at (standingText i gone) (now (out .exit)) e ⌝ }
+{
+    let e = put_number_line(out, at, b"process=", i);
+    put_bytes(out, e, b"stage=gone\n")
+}
+
+fn put_registers(out: &mut [u8], at: usize, p: Process) -> usize
+    ensures { λ e. ⌜ Wrote (now (out .entry)) at (eachFrom registerLine 0 (p .r0 ∷ p .r1 ∷ p .r2 ∷ p .r3 ∷ [])) (now (out .exit)) e ⌝ }
+{
+    let r0 = p.r0;
+    let r1 = p.r1;
+    let r2 = p.r2;
+    let r3 = p.r3;
+    let e = put_value_line(out, at, b"r0=", r0);
+    let e = put_value_line(out, e, b"r1=", r1);
+    let e = put_value_line(out, e, b"r2=", r2);
+    put_value_line(out, e, b"r3=", r3)
+}
+
+fn put_links(out: &mut [u8], at: usize, p: Process) -> usize
+    ensures { λ e. ⌜ Wrote (now (out .entry)) at (linksLine (linkSet p)) (now (out .exit)) e ⌝ }
+{
+    let e = put_bytes(out, at, b"links=");
+    let e = put_members(out, e, p);
+    put_byte(out, e, b'\n')
+}
+
+fn put_members(out: &mut [u8], at: usize, p: Process) -> usize
+    ensures { λ e. ⌜ Wrote (now (out .entry)) at (withCommas (members (linkSet p) numbers)) (now (out .exit)) e ⌝ }
+{
+    let mut e = at;
+    let mut later = false;
+    let mut k = 0;
+    while k < 16 {
+        let linked = p.links[k];
+        e = put_member(out, e, linked, later, (k as u64) + 1);
+        later = later | linked;
+        k += 1;
+    }
+    e
+}
+
+// Process j, where it is a link; a comma stands before all but the first.
+fn put_member(out: &mut [u8], at: usize, linked: bool, later: bool, j: u64) -> usize
+    ensures { λ e. ⌜ Wrote (now (out .entry)) at (cond linked (cond later (comma ++ digits j) (digits j)) []) (now (out .exit)) e ⌝ }
+{
+    if linked {
+        if later {
+            let e = put_byte(out, at, b',');
+            return put_number(out, e, j);
+        }
+        return put_number(out, at, j);
+    }
+    at
+}
+
+fn put_mail(out: &mut [u8], at: usize, m: Mailbox) -> usize
+    ensures { λ e. ⌜ Wrote (now (out .entry)) at (mailText (messages m)) (now (out .exit)) e ⌝ }
+{
+    let e = put_number_line(out, at, b"mail=", m.count as u64);
+    put_messages(out, e, m)
+}
+
+fn put_messages(out: &mut [u8], at: usize, m: Mailbox) -> usize
+    ensures { λ e. ⌜ Wrote (now (out .entry)) at (each messageLine (messages m)) (now (out .exit)) e ⌝ }
+{
+    let n = m.count;
+    let mut e = at;
+    let mut k = 0;
+    while k < n {
+        e = put_message(out, e, m.message_at(k));
+        k += 1;
+    }
+    e
+}
+
+fn put_message(out: &mut [u8], at: usize, m: Message) -> usize
+    ensures { λ e. ⌜ Wrote (now (out .entry)) at (messageLine m) (now (out .exit)) e ⌝ }
+{
+    match m {
+        Message::Plain(v) => put_value_line(out, at, b"message=", v),
+        Message::Note(j, v) => put_note(out, at, j, v),
+    }
+}
+
+fn put_note(out: &mut [u8], at: usize, j: ProcessNumber, v: Value) -> usize
+    ensures { λ e. ⌜ Wrote (now (out .entry)) at (messageLine (Message.Note j v)) (now (out .exit)) e ⌝ }
+{
+    let e = put_bytes(out, at, b"note=");
+    let e = put_value(out, e, Value::Pid(j));
+    let e = put_byte(out, e, b',');
+    let e = put_value(out, e, v);
+    put_byte(out, e, b'\n')
+}
+
+fn put_flight_line(out: &mut [u8], at: usize, j: u64, i: u64, n: u64) -> usize
+    ensures { λ e. ⌜ Wrote (now (out .entry)) at (flightLine j i n) (now (out .exit)) e ⌝ }
+{
+    let e = put_bytes(out, at, b"flight=");
+    let e = put_number(out, e, j);
+    let e = put_byte(out, e, b',');
+    let e = put_number(out, e, i);
+    let e = put_byte(out, e, b',');
+    let e = put_number(out, e, n);
+    put_byte(out, e, b'\n')
+}
+
+fn put_signals(out: &mut [u8], at: usize, r: Row) -> usize
+    ensures { λ e. ⌜ Wrote (now (out .entry)) at (each signalLine (signals r)) (now (out .exit)) e ⌝ }
+{
+    let n = r.count;
+    let mut e = at;
+    let mut k = 0;
+    while k < n {
+        e = put_signal(out, e, r.signal_at(k));
+        k += 1;
+    }
+    e
+}
+
+fn put_signal(out: &mut [u8], at: usize, x: Signal) -> usize
+    ensures { λ e. ⌜ Wrote (now (out .entry)) at (signalLine x) (now (out .exit)) e ⌝ }
+{
+    match x {
+        Signal::Msg(v) => put_value_line(out, at, b"signal=msg,", v),
+        Signal::Exit(v, b) => put_exit(out, at, v, b),
+        Signal::Link => put_bytes(out, at, b"signal=link\n"),
+        Signal::Unlink => put_bytes(out, at, b"signal=unlink\n"),
+    }
+}
+
+fn put_exit(out: &mut [u8], at: usize, v: Value, b: bool) -> usize
+    ensures { λ e. ⌜ Wrote (now (out .entry)) at (signalLine (Signal.Exit v b)) (now (out .exit)) e ⌝ }
+{
+    let e = put_bytes(out, at, b"signal=exit,");
+    let e = put_value(out, e, v);
+    let e = put_byte(out, e, b',');
+    let e = put_number(out, e, flag(b));
+    put_byte(out, e, b'\n')
+}
+
+fn put_number_line(out: &mut [u8], at: usize, key: &[u8], n: u64) -> usize
+    ensures { λ e. ⌜ Wrote (now (out .entry)) at (numberLine (now (key .entry)) n) (now (out .exit)) e ⌝ }
+{
+    let e = put_bytes(out, at, key);
+    let e = put_number(out, e, n);
+    put_byte(out, e, b'\n')
+}
+
+fn put_value_line(out: &mut [u8], at: usize, key: &[u8], v: Value) -> usize
+    ensures { λ e. ⌜ Wrote (now (out .entry)) at (valueLine (now (key .entry)) v) (now (out .exit)) e ⌝ }
+{
+    let e = put_bytes(out, at, key);
+    let e = put_value(out, e, v);
+    put_byte(out, e, b'\n')
+}
+
+fn flag(b: bool) -> u64
+    ensures { λ r. ⌜ r ≡ flag b ⌝ }
+{
+    if b {
+        return 1;
+    }
+    0
+}
