@@ -13,10 +13,12 @@ use Rattle.rules.specs.Nodes.{code, behavioursOf}
 use Rattle.text.specs.Numbers.{isDigit, unsignedForm, negative, unsigned, numberForm, decimal, numberValue, numberOf, rangedOf}
 use Rattle.text.specs.Parts.{split, inFront, lineThen, lastApart, linesOf, fieldsOf, equal, startsWith, indexOf}
 use Rattle.text.specs.Values.{plusOf, minusOf, intOf, byLetter, valueOf}
-use Rattle.plan.specs.declared.Start.{Start}
-use Rattle.plan.specs.Ops.{clauseKind, operandOf, withOperand, operandsOf, opOf, codedOf}
-use Rattle.plan.specs.Plans.{headerLine, countLine, opLine, startOf, risenStart, startLine, Plan, codeLines, startLines, planLines, misplacedIn, misplacedFrom, misplaced, nodeOf, refusedLoad, checked, loadOf}
-use Rattle.plan.specs.Reading.{worse, onLine, times, endOf}
+use Rattle.plan_line.specs.declared.Start.{Start}
+use Rattle.plan_line.specs.Ops.{clauseKind, operandOf, withOperand, operandsOf, opOf, codedOf}
+use Rattle.plan_line.specs.Lines.{headerLine, countLine, opLine, startOf, risenStart, startLine}
+use Rattle.plan.specs.Plans.{Plan, codeLines, startLines, planLines, misplacedIn, misplacedFrom, misplaced, nodeOf, refusedLoad, checked, loadOf}
+use Rattle.plan_line.specs.Ops.{worse}
+use Rattle.plan.specs.Reading.{onLine, times, endOf}
 
 opWith : ℕ → ℕ → ℕ → ℕ → ℕ → Value → Op
 opWith k r s t small v = record { number = k; r = r; s = s; target = t; small = small; value = v; process = record { 0 = 0 }; behaviour = record { 0 = 0 } }

@@ -1,3 +1,4 @@
-pub mod Keys
-pub mod Ops
+pub mod Marks
+pub mod Loops
+pub mod Nodes
 pub mod Examples
