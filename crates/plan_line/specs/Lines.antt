@@ -1,25 +1,26 @@
 -- The lines of a plan, one by one (document 01, "Plan, steps and listing text" and the plan writer's numbers).
---   answered k a            a result beside the refusal of its line
---   behindKey key f line    what f reads behind the key of a line; a wrong key is 11
---   headerLine              the line `plan=1`
---   countLine key low high  a line with a key and a number, low to high
---   opLine c n              a line `op=` of a code with n ops, in a plan with c behaviours
+--   behindKey key x f line  what f reads behind the key of a line; x where the key is wrong
+--   headerTold              what is told of the line `plan=1`: 11, or 0
+--   countTold key low high  what is told of a line with a key and a number, low to high
+--   opTold c n              what is told of a line `op=` of a code with n ops, in a plan with c behaviours
 --   startOf c fields        a start, from its process and behaviour
---   risenStart last s       13: a start's process has to be above the last
---   startLine c last        a line `start=` behind a start of process `last`
+--   risen last s            13: a start's process has to be above the last
+--   startTold c last        what is told of a line `start=` behind a start of process `last`
+--   answered k a            a result beside the refusal of its line
+--   headerLine countLine opLine startLine   the refusal of such a line, or its result
 use mathlib.Core.Bool.{cond}
 use mathlib.Core.List.{List, [], _∷_}
 use Prim.Native.Nat.{ℕ}
 use lib.Dec.{eqb, ltb}
 use lib.ListN.{length, getD, drop}
 use Rattle.node.specs.declared.Op.{Op}
-use Rattle.rules.specs.Answers.{Answer, done, need, goOn}
+use Rattle.rules.specs.Answers.{Answer, done, need}
 use Rattle.text.specs.declared.Ranged.{Ranged}
-use Rattle.text.specs.Numbers.{malformed, numberOf, rangedOf}
+use Rattle.text.specs.Numbers.{malformed, numberOf, noNumber, rangedOf}
 use Rattle.text.specs.Parts.{fieldsOf, equal, startsWith}
 use Rattle.plan_line.specs.declared.Coded.{Coded}
 use Rattle.plan_line.specs.declared.Start.{Start}
-use Rattle.plan_line.specs.Ops.{worse, codedOf}
+use Rattle.plan_line.specs.Ops.{worse, noCode, codedOf}
 
 -- "13 start numbers not rising"
 abbrev pub notRising : ℕ
@@ -43,27 +44,21 @@ startsKey = 115 ∷ 116 ∷ 97 ∷ 114 ∷ 116 ∷ 115 ∷ 61 ∷ []  -- starts=
 abbrev pub startKey : List ℕ
 startKey = 115 ∷ 116 ∷ 97 ∷ 114 ∷ 116 ∷ 61 ∷ []  -- start=
 
-abbrev pub answered : {A : Type 0} → ℕ → A → Answer A
-answered k a = need (eqb k 0) k (done a)
+abbrev pub behindKey : {A : Type 0} → List ℕ → A → (List ℕ → A) → List ℕ → A
+behindKey key wrong f line = cond (startsWith key line) (f (drop (length key) line)) wrong
 
-abbrev pub behindKey : {A : Type 0} → List ℕ → (List ℕ → Answer A) → List ℕ → Answer A
-behindKey key f line = need (startsWith key line) malformed (f (drop (length key) line))
+-- ---- what is told of a line: a record with its refusal, 0 where there is none
 
 -- "A first line other than `plan=1` is 11"
-unfoldable pub headerLine : List ℕ → Answer ℕ
-headerLine line = need (equal line header) malformed (done 1)
+unfoldable pub headerTold : List ℕ → ℕ
+headerTold line = cond (equal line header) 0 malformed
 
-abbrev pub number : Ranged → Answer ℕ
-number x = answered (x .refusal) (x .number)
+-- "11 wrong key"
+unfoldable pub countTold : List ℕ → ℕ → ℕ → List ℕ → Ranged
+countTold key low high = behindKey key (noNumber malformed) (λ l. rangedOf (numberOf l) low high)
 
-unfoldable pub countLine : List ℕ → ℕ → ℕ → List ℕ → Answer ℕ
-countLine key low high = behindKey key (λ l. number (rangedOf (numberOf l) low high))
-
-abbrev pub op : Coded → Answer Op
-op x = answered (x .refusal) (x .op)
-
-unfoldable pub opLine : ℕ → ℕ → List ℕ → Answer Op
-opLine c n = behindKey opKey (λ l. op (codedOf c n (fieldsOf l)))
+unfoldable pub opTold : ℕ → ℕ → List ℕ → Coded
+opTold c n = behindKey opKey noCode (λ l. codedOf c n (fieldsOf l))
 
 abbrev pub pairOf : Ranged → Ranged → Start
 pairOf i b = record { refusal = worse (i .refusal) (b .refusal); process = i .number; behaviour = b .number }
@@ -78,11 +73,35 @@ startOf c fields =
     (pairOf (rangedOf (numberOf (getD fields 0 [])) 1 16) (rangedOf (numberOf (getD fields 1 [])) 1 c))
     (noStart malformed)
 
+-- "on a line 11, 12, 13 in that order"
+unfoldable pub risen : ℕ → Start → Start
+risen last s = cond (eqb (s .refusal) 0) (cond (ltb last (s .process)) s (noStart notRising)) s
+
+unfoldable pub startTold : ℕ → ℕ → List ℕ → Start
+startTold c last = behindKey startKey (noStart malformed) (λ l. risen last (startOf c (fieldsOf l)))
+
+-- ---- the refusal of a line, or its result
+
+abbrev pub answered : {A : Type 0} → ℕ → A → Answer A
+answered k a = need (eqb k 0) k (done a)
+
+unfoldable pub headerLine : List ℕ → Answer ℕ
+headerLine line = answered (headerTold line) 1
+
+abbrev pub number : Ranged → Answer ℕ
+number x = answered (x .refusal) (x .number)
+
+unfoldable pub countLine : List ℕ → ℕ → ℕ → List ℕ → Answer ℕ
+countLine key low high line = number (countTold key low high line)
+
+abbrev pub op : Coded → Answer Op
+op x = answered (x .refusal) (x .op)
+
+unfoldable pub opLine : ℕ → ℕ → List ℕ → Answer Op
+opLine c n line = op (opTold c n line)
+
 abbrev pub start : Start → Answer Start
 start s = answered (s .refusal) s
 
-unfoldable pub risenStart : ℕ → Start → Answer Start
-risenStart last s = goOn (start s) (λ x. need (ltb last (x .process)) notRising (done x))
-
 unfoldable pub startLine : ℕ → ℕ → List ℕ → Answer Start
-startLine c last = behindKey startKey (λ l. risenStart last (startOf c (fieldsOf l)))
+startLine c last line = start (startTold c last line)

@@ -12,16 +12,16 @@ ghost use lib.ListN.{length, getD, drop};
 ghost use Rattle.node.specs.Ops.{operandCounts, kindsOf};
 ghost use Rattle.text.specs.Parts.{fieldsOf};
 ghost use Rattle.plan_line.specs.Ops.{worse, exact, clauseKind, lowest, highest, operandOf, withValue, withOperand, joined, operandsOf, bare, noCode, codedOf};
-ghost use Rattle.plan_line.specs.Lines.{headerLine, answered, number, countLine, op, opLine, startOf, noStart, start, risenStart, startLine};
+ghost use Rattle.plan_line.specs.Lines.{headerTold, countTold, opTold, startOf, noStart, risen, startTold};
 
 // Start numbers that do not rise.
 const NOT_RISING: u8 = 13;
 
 // An operand as it is read: the refusal, 11 or 12, or 0; its number; and its value, where it has one.
-pub struct Operand {
-    pub refusal: u8,
-    pub number: u8,
-    pub value: Value,
+struct Operand {
+    refusal: u8,
+    number: u8,
+    value: Value,
 }
 
 // An op as it is read: the refusal, 11 or 12, or 0, and the op with the operands that were read.
@@ -39,7 +39,7 @@ pub struct Start {
 
 // The line `plan=1`: 11 or 0.
 pub fn header_line(line: &[u8]) -> u8
-    ensures { λ r. ⌜ answered r 1 ≡ headerLine (now (line .entry)) ⌝ }
+    ensures { λ r. ⌜ r ≡ headerTold (now (line .entry)) ⌝ }
 {
     if text::same(line, b"plan=1") {
         return 0;
@@ -49,7 +49,7 @@ pub fn header_line(line: &[u8]) -> u8
 
 // A line with a key and a number.
 pub fn count_line(line: &[u8], key: &[u8], low: u8, high: u8) -> Ranged
-    ensures { λ r. ⌜ number r ≡ countLine (now (key .entry)) low high (now (line .entry)) ⌝ }
+    ensures { λ r. ⌜ r ≡ countTold (now (key .entry)) low high (now (line .entry)) ⌝ }
 {
     if text::starts(line, key) {
         let k = key.len();
@@ -63,7 +63,7 @@ pub fn count_line(line: &[u8], key: &[u8], low: u8, high: u8) -> Ranged
 
 // A line `op=` of a code with `len` ops, in a plan with `count` behaviours.
 pub fn op_line(line: &[u8], count: u8, len: u8) -> Coded
-    ensures { λ r. ⌜ op r ≡ opLine count len (now (line .entry)) ⌝ }
+    ensures { λ r. ⌜ r ≡ opTold count len (now (line .entry)) ⌝ }
 {
     if text::starts(line, b"op=") {
         return read_op(&line[3..], count, len);
@@ -73,7 +73,7 @@ pub fn op_line(line: &[u8], count: u8, len: u8) -> Coded
 
 // A line `start=` behind a start of process `last`.
 pub fn start_line(line: &[u8], count: u8, last: u8) -> Start
-    ensures { λ r. ⌜ start r ≡ startLine count last (now (line .entry)) ⌝ }
+    ensures { λ r. ⌜ r ≡ startTold count last (now (line .entry)) ⌝ }
 {
     if text::starts(line, b"start=") {
         return rising(read_start(&line[6..], count), last);
@@ -320,7 +320,7 @@ fn no_start(refusal: u8) -> Start
 
 // 13, where its process is not above the last.
 fn rising(s: Start, last: u8) -> Start
-    ensures { λ r. ⌜ start r ≡ risenStart last s ⌝ }
+    ensures { λ r. ⌜ r ≡ risen last s ⌝ }
 {
     if s.refusal != 0 {
         return s;

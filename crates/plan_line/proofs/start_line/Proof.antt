@@ -3,8 +3,9 @@ use mathlib.Core.List.{List}
 use mathlib.Core.Path.{ap, _∙_}
 use Prim.Native.Nat.{ℕ}
 use borrow.Author.Needs.{needs}
+use Rattle.text.specs.Numbers.{malformed}
 use Rattle.text.specs.Parts.{fieldsOf}
-use Rattle.plan_line.specs.Lines.{startKey, startOf, start, risenStart, startLine}
+use Rattle.plan_line.specs.Lines.{startKey, startOf, noStart, risen, startTold}
 use Rattle.plan_line.proofs.Keys.{key-long, key-right, key-wrong}
 use Rattle.plan_line.proofs.start_line.Statement.{statement}
 use Rattle.plan_line.proofs.start_line.Tie as tie
@@ -31,22 +32,22 @@ rising-requires : tie.Need-rising-requires
 rising-requires c κs = search needs
 
 returns : tie.Need-returns
-unfolding startLine
+unfolding startTold
 returns c =
     let args = c .before .before .before .before .before .before .before .args in
     let if1 = c .before .before .before .if1 in
     let starts = c .before .before .before .before .starts in
-    key-right startKey _ (starts .ensures) (λ (l : List ℕ). risenStart (args .last) (startOf (args .count) (fieldsOf l))) (if1 .taken) (c .rising .ensures ∙ ap (risenStart _) (c .before .read-start .ensures))
+    key-right startKey _ (starts .ensures) (noStart malformed) (λ (l : List ℕ). risen (args .last) (startOf (args .count) (fieldsOf l))) (if1 .taken) (c .rising .ensures ∙ ap (risen _) (c .before .read-start .ensures))
 
 no-start-requires : tie.Need-no-start-requires
 no-start-requires c κs = search needs
 
 returns-2 : tie.Need-returns-2
-unfolding startLine
+unfolding startTold
 returns-2 c =
     let args = c .before .before .before .before .before .args in
     let starts = c .before .before .starts in
-    key-wrong startKey _ (starts .ensures) (λ (l : List ℕ). risenStart (args .last) (startOf (args .count) (fieldsOf l))) (c .before .if1 .left) (ap start (c .no-start .ensures))
+    key-wrong startKey _ (starts .ensures) (noStart malformed) (λ (l : List ℕ). risen (args .last) (startOf (args .count) (fieldsOf l))) (c .before .if1 .left) (c .no-start .ensures)
 
 pub start-line-spec : {M : Type 1} → statement M
 start-line-spec =
