@@ -1,18 +1,18 @@
 -- Laws of the node that is being made: one op more, and what does not fit into its arrays. Assumes nothing.
 use mathlib.Core.List.{List, [], _∷_, _++_}
 use mathlib.Core.Path.{_≡_, refl, sym, ap, _∙_}
-use Prim.Native.Nat.{ℕ, suc, _+_, _*_, _-_, _≤_, _<_}
+use Prim.Native.Nat.{ℕ, suc, _+_, _*_, _-_, _<_}
 use native.Mathlib.Omega.{arith}
 use lib.ListN.{length, set, length-append}
-use lib.Seq.{sets, set-set, set-out}
+use lib.Seq.{sets, set-set}
 use Rattle.node.specs.declared.Node.{Node}
 use Rattle.node.specs.declared.Op.{Op}
+use Rattle.node.specs.declared.Process.{Process}
 use Rattle.node.specs.Processes.{fresh}
 use Rattle.node.specs.Values.{intZero}
-use Rattle.node.proofs.Good.{SizedNode}
 use Rattle.plan_line.specs.declared.Start.{Start}
 use Rattle.plan.specs.declared.Mark.{Mark}
-use Rattle.plan.specs.Marks.{leftAt, mapped, withOp, Reached}
+use Rattle.plan.specs.Marks.{leftAt, mapped, Reached}
 use Rattle.plan_line.specs.Lines.{startLine}
 use Rattle.plan.specs.Plans.{lastFrom, withOps, withCode, withStart, withEach}
 use Rattle.plan.specs.Reading.{onLine}
@@ -24,7 +24,18 @@ sets-more {A} l i (y ∷ xs) x =
     let e : i + suc (length xs) ≡ suc i + length xs = omega arith in
     ap (λ (k : ℕ). set (sets (set l i y) (suc i) xs) k x) e ∙ sets-more (set l i y) (suc i) xs x
 
-pub ops-more : (n : Node) (xs : List Op) {i : ℕ} (x : Op) → length xs ≡ i → withOp (withOps n xs) i x ≡ withOps n (xs ++ (x ∷ []))
+-- node n with op x at place k of behaviour c + 1, which ends there
+abbrev withOp : ℕ → Node → ℕ → Op → Node
+withOp c n k x = record {
+  count = n .count;
+  lens = set (n .lens) c (k + 1);
+  ops = set (n .ops) (c * 32 + k) x;
+  processes = n .processes;
+  mail = n .mail;
+  flight = n .flight;
+}
+
+ops-more : (n : Node) (xs : List Op) {i : ℕ} (x : Op) → length xs ≡ i → withOp (n .count) (withOps n xs) i x ≡ withOps n (xs ++ (x ∷ []))
 ops-more n xs {i} x e =
     let size : length (xs ++ (x ∷ [])) ≡ i + 1 = length-append xs (x ∷ []) ∙ omega arith in
     let lens : set (set (n .lens) (n .count) (length xs)) (n .count) (i + 1) ≡ set (n .lens) (n .count) (length (xs ++ (x ∷ []))) =
@@ -34,22 +45,10 @@ ops-more n xs {i} x e =
     cc
 
 -- one op more, behind those that are there
-pub ops-next : (n : Node) (xs : List Op) {i : ℕ} {b b′ : Node} {y x : Op} → b′ ≡ withOp b i y → b ≡ withOps n xs → y ≡ x → length xs ≡ i
-    → b′ ≡ withOps n (xs ++ (x ∷ []))
-ops-next n xs {i} {b} {b′} {y} {x} p q e c =
-    p ∙ ap (λ (a : Node). withOp a i y) q ∙ ap (withOp (withOps n xs) i) e ∙ ops-more n xs x c
-
-module _ (n : Node) (z : SizedNode n) where
-  pub op-out : (k : ℕ) (x : Op) → 8 ≤ n .count → n ≡ withOp n k x
-  op-out k x h =
-      rw (set-out (n .lens) (n .count) (k + 1) (omega (arith, z .lens)), set-out (n .ops) (n .count * 32 + k) x (omega (arith, z .ops)))
-
-  pub op-past : (k : ℕ) (x : Op) → 256 ≤ n .count * 32 + k
-      → record { count = n .count; lens = set (n .lens) (n .count) (k + 1); ops = n .ops; processes = n .processes; mail = n .mail; flight = n .flight } ≡ withOp n k x
-  op-past k x h = rw (set-out (n .ops) (n .count * 32 + k) x (omega (arith, z .ops)))
-
-  pub none-out : 8 ≤ n .count → n ≡ withOps n []
-  none-out h = rw (set-out (n .lens) (n .count) 0 (omega (arith, z .lens)))
+pub ops-next : (n : Node) (xs : List Op) {i : ℕ} {b : Node} {y x : Op} → b ≡ withOps n xs → y ≡ x → length xs ≡ i
+    → withOp (n .count) b i y ≡ withOps n (xs ++ (x ∷ []))
+ops-next n xs {i} {b} {y} {x} q e c =
+    ap (λ (a : Node). withOp (n .count) a i y) q ∙ ap (withOp (n .count) (withOps n xs) i) e ∙ ops-more n xs x c
 
 pub each-more : {A : Type 0} (f : Node → A → Node) (n : Node) (xs : List A) (x : A) → f (withEach f n xs) x ≡ withEach f n (xs ++ (x ∷ []))
 each-more f n [] x = refl
@@ -59,7 +58,7 @@ pub codes-count : (n : Node) (codes : List (List Op)) → withEach withCode n co
 codes-count n [] = omega arith
 codes-count n (code ∷ codes) = codes-count (withCode n code) codes ∙ omega arith
 
-pub codes-small : (n : Node) (codes : List (List Op)) {b : Node} → b ≡ withEach withCode n codes → n .count + length codes < 255 → b .count < 255
+pub codes-small : (n : Node) (codes : List (List Op)) {b : Node} → b ≡ withEach withCode n codes → n .count + length codes < 8 → b .count < 8
 codes-small n codes e h = rw (e, codes-count n codes) h
 
 -- the count of a behaviour that is read
@@ -84,9 +83,10 @@ begun-more n starts {b} {b′} {i} {y} {s} p q e =
     let last : y .process ≡ lastFrom 0 (starts ++ (s ∷ [])) = ap (λ (x : Start). x .process) e ∙ sym (last-more 0 starts s) in
     cc
 
-pub start-out : (n : Node) (s : Start) → SizedNode n → 16 ≤ s .process - 1 → n ≡ withStart n s
-start-out n s z h =
-    rw (set-out (n .processes) (s .process - 1) (fresh (record { 0 = s .behaviour }) intZero) (omega (arith, z .processes)))
+-- a process stored where it stands
+pub started : (n : Node) (s : Start) {k : ℕ} {p : Process} → k ≡ s .process - 1 → p ≡ fresh (record { 0 = s .behaviour }) intZero
+    → record { count = n .count; lens = n .lens; ops = n .ops; processes = set (n .processes) k p; mail = n .mail; flight = n .flight } ≡ withStart n s
+started n s e f = rw (e, f)
 
 -- a start that was read behind the last one
 pub start-read : (s : List ℕ) (m : Mark) (c : ℕ) (n : Node) (starts : List Start) {b : Node} {i : ℕ} {x : Mark} {y : Start}

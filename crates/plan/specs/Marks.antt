@@ -4,17 +4,14 @@
 --   mapped f r        what is read, its result changed by f
 --   stopped m k       mark m with refusal k
 --   behind m e k      the mark behind the line of m that ends at e; with a refusal, m and the refusal
---   withOp n k x      node n with op x at place k of the behaviour behind the others, which ends there
 --   Within s m        m lies within s, and s within the limit of a plan
 --   Reached s m a r   reading up to m, with result a, is r
 use mathlib.Core.Bool.{cond}
 use mathlib.Core.List.{List}
 use mathlib.Core.Path.{_≡_}
-use Prim.Native.Nat.{ℕ, _+_, _*_, _≤_}
+use Prim.Native.Nat.{ℕ, _+_, _≤_}
 use lib.Dec.{eqb}
-use lib.ListN.{length, drop, set}
-use Rattle.node.specs.declared.Node.{Node}
-use Rattle.node.specs.declared.Op.{Op}
+use lib.ListN.{length, drop}
 use Rattle.text.specs.Parts.{linesOf}
 use Rattle.plan.specs.declared.Mark.{Mark}
 use Rattle.plan.specs.Reading.{Left, Read, bad, good}
@@ -34,16 +31,6 @@ stopped m k = record { refusal = k; line = m .line; at = m .at }
 
 unfoldable pub behind : Mark → ℕ → ℕ → Mark
 behind m e k = cond (eqb k 0) (record { refusal = 0; line = m .line + 1; at = e + 1 }) (stopped m k)
-
-abbrev pub withOp : Node → ℕ → Op → Node
-withOp n k x = record {
-  count = n .count;
-  lens = set (n .lens) (n .count) (k + 1);
-  ops = set (n .ops) (n .count * 32 + k) x;
-  processes = n .processes;
-  mail = n .mail;
-  flight = n .flight;
-}
 
 pub record Within (s : List ℕ) (m : Mark) : Type 0 where
   pub line : m .line ≤ m .at + 1

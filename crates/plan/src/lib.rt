@@ -9,10 +9,10 @@ use plan_line::Start;
 use text::MALFORMED;
 ghost use mathlib.Core.List.{[]};
 ghost use mathlib.Core.Path.{_≡_};
-ghost use Prim.Native.Nat.{_<_};
+ghost use Prim.Native.Nat.{_≤_, _<_};
 ghost use Rattle.plan_line.specs.Lines.{headerLine, countLine, opLine, startLine};
 ghost use Rattle.plan.specs.Plans.{more, codeLines, startMore, startLines, withOps, withCode, withStart, withEach};
-ghost use Rattle.plan.specs.Marks.{leftAt, mapped, stopped, behind, withOp, Within, Reached};
+ghost use Rattle.plan.specs.Marks.{leftAt, mapped, stopped, behind, Within, Reached};
 ghost use Rattle.plan.specs.Reading.{onLine, times};
 
 // What a load tells: the number, 10 to 14 or 0; the line, from 1, or 0; and the node, which is the blank one with a refusal.
@@ -23,10 +23,10 @@ pub struct Loaded {
 }
 
 // How far a text is read: a refusal, or 0; the number of the next line, or of the refused one; and where that line begins.
-pub struct Mark {
-    pub refusal: u8,
-    pub line: usize,
-    pub at: usize,
+struct Mark {
+    refusal: u8,
+    line: usize,
+    at: usize,
 }
 
 // What a line gave, and the mark behind it.
@@ -64,7 +64,7 @@ fn header_at(text: &[u8], m: Mark) -> Mark
 
 fn count_at(text: &[u8], m: Mark, key: &[u8], low: u8, high: u8) -> CountAt
     requires { ⌜ Within (now text) m ⌝ }
-    ensures { λ r. ⌜ Reached (now (text .entry)) (r .mark) (r .number) (onLine (countLine (now (key .entry)) low high) (leftAt (now (text .entry)) m)) ⌝ }
+    ensures { λ r. ⌜ (Reached (now (text .entry)) (r .mark) (r .number) (onLine (countLine (now (key .entry)) low high) (leftAt (now (text .entry)) m))) × (r .number ≤ high) ⌝ }
 {
     let at = m.at;
     let e = text::find(text, at, b'\n');
@@ -103,7 +103,7 @@ fn op_at(text: &[u8], m: Mark, count: u8, len: u8) -> OpAt
 
 fn start_at(text: &[u8], m: Mark, count: u8, last: u8) -> StartAt
     requires { ⌜ Within (now text) m ⌝ }
-    ensures { λ r. ⌜ Reached (now (text .entry)) (r .mark) (r .start) (onLine (startLine count last) (leftAt (now (text .entry)) m)) ⌝ }
+    ensures { λ r. ⌜ (Reached (now (text .entry)) (r .mark) (r .start) (onLine (startLine count last) (leftAt (now (text .entry)) m))) × (r .start .process ≤ 16) ⌝ }
 {
     let at = m.at;
     let e = text::find(text, at, b'\n');
@@ -149,13 +149,16 @@ fn behind_line(m: Mark, e: usize, refusal: u8) -> Mark
     }
 }
 
-// The ops of a behaviour with `len` ops.
+// The ops of a behaviour with `len` ops, behind the others. Each is stored where it stays, since a node is too large to be handed on
+// for each.
 fn read_ops(text: &[u8], m: Mark, node: Node, count: u8, len: u8) -> Placed
-    requires { ⌜ (Within (now text) m) × (m .refusal ≡ 0) ⌝ }
+    requires { ⌜ (Within (now text) m) × (m .refusal ≡ 0) × (node .count < 8) × (len ≤ 32) ⌝ }
     ensures { λ r. ⌜ Reached (now (text .entry)) (r .mark) (r .node) (mapped (withOps node) (times len (more (onLine (opLine count len))) [] (leftAt (now (text .entry)) m))) ⌝ }
 {
+    let b = node.count as usize;
     let mut mark = m;
-    let mut n = opened(node);
+    let mut n = node;
+    n.lens[b] = 0;
     let mut i: u8 = 0;
     while i < len {
         let x = op_at(text, mark, count, len);
@@ -164,47 +167,17 @@ fn read_ops(text: &[u8], m: Mark, node: Node, count: u8, len: u8) -> Placed
         if mark.refusal != 0 {
             return Placed { mark, node };
         }
-        n = with_op(n, i, op);
+        let at = b * 32 + (i as usize);
         i += 1;
+        n.lens[b] = i;
+        n.ops[at] = op;
     }
     Placed { mark, node: n }
 }
 
-// A node with a behaviour behind the others that has no ops yet.
-fn opened(node: Node) -> Node
-    ensures { λ r. ⌜ r ≡ withOps node [] ⌝ }
-{
-    let b = node.count as usize;
-    let mut n = node;
-    if b < 8 {
-        n.lens[b] = 0;
-        return n;
-    }
-    n
-}
-
-// An op at place k of the behaviour behind the others, which ends there.
-fn with_op(node: Node, k: u8, op: Op) -> Node
-    requires { ⌜ k < 255 ⌝ }
-    ensures { λ r. ⌜ r ≡ withOp node k op ⌝ }
-{
-    let b = node.count as usize;
-    let mut n = node;
-    if 8 <= b {
-        return n;
-    }
-    n.lens[b] = k + 1;
-    let at = b * 32 + (k as usize);
-    if at < 256 {
-        n.ops[at] = op;
-        return n;
-    }
-    n
-}
-
 // A behaviour, behind the others.
 fn read_code(text: &[u8], m: Mark, node: Node, count: u8) -> Placed
-    requires { ⌜ (Within (now text) m) × (m .refusal ≡ 0) × (node .count < 255) ⌝ }
+    requires { ⌜ (Within (now text) m) × (m .refusal ≡ 0) × (node .count < 8) ⌝ }
     ensures { λ r. ⌜ Reached (now (text .entry)) (r .mark) (r .node) (mapped (withCode node) (codeLines count (leftAt (now (text .entry)) m))) ⌝ }
 {
     let x = count_at(text, m, b"code=", 1, 32);
@@ -222,7 +195,7 @@ fn read_code(text: &[u8], m: Mark, node: Node, count: u8) -> Placed
 
 // The behaviours of a plan.
 fn read_codes(text: &[u8], m: Mark, node: Node, count: u8) -> Placed
-    requires { ⌜ (Within (now text) m) × (m .refusal ≡ 0) × (node .count ≡ 0) ⌝ }
+    requires { ⌜ (Within (now text) m) × (m .refusal ≡ 0) × (node .count ≡ 0) × (count ≤ 8) ⌝ }
     ensures { λ r. ⌜ Reached (now (text .entry)) (r .mark) (r .node) (mapped (withEach withCode node) (times count (more (codeLines count)) [] (leftAt (now (text .entry)) m))) ⌝ }
 {
     let mut mark = m;
@@ -270,22 +243,10 @@ fn start_each(text: &[u8], m: Mark, node: Node, count: u8, len: u8) -> Placed
         }
         let s = x.start;
         last = s.process;
-        n = with_start(n, s);
+        let k = ProcessNumber(last).index();
+        let p = Process::fresh(BehaviourNumber(s.behaviour), Value::ZERO);
+        n.processes[k] = p;
         i += 1;
     }
     Placed { mark, node: n }
-}
-
-// A process started.
-fn with_start(node: Node, s: Start) -> Node
-    ensures { λ r. ⌜ r ≡ withStart node s ⌝ }
-{
-    let mut n = node;
-    let k = ProcessNumber(s.process).index();
-    if k < 16 {
-        let p = Process::fresh(BehaviourNumber(s.behaviour), Value::ZERO);
-        n.processes[k] = p;
-        return n;
-    }
-    n
 }

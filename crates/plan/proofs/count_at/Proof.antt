@@ -1,6 +1,9 @@
 -- `count_at` reads one line: a line that is there by its kind, and a missing one as 11. Assumes nothing.
+use mathlib.Core.Path.{ap}
+use native.Mathlib.Omega.{arith}
 use borrow.Author.Needs.{needs}
-use Rattle.plan_line.specs.Lines.{countLine}
+use Rattle.plan_line.specs.Lines.{number, countLine}
+use Rattle.plan_line.proofs.Ranges.{count-kept}
 use Rattle.plan.proofs.Marks.{line-start, line-end, line-short, line-missing, line-read}
 use Rattle.plan.proofs.count_at.Statement.{statement}
 use Rattle.plan.proofs.count_at.Tie as tie
@@ -16,7 +19,7 @@ returns c =
     let args = c .before .before .before .before .before .args in
     let find = c .before .before .find in
     let pre = c .before .before .before .before .before .pre in
-    line-missing _ _ (pre) (find .ensures) (countLine _ (args .low) (args .high)) _ (c .before .if1 .taken) (c .stopped-at .ensures)
+    (line-missing _ _ (pre) (find .ensures) (countLine _ (args .low) (args .high)) _ (c .before .if1 .taken) (c .stopped-at .ensures), omega arith)
 
 sub-count-line : tie.Need-sub-count-line
 sub-count-line c =
@@ -44,12 +47,14 @@ behind-line-requires c κs =
     line-short _ _ (pre) (find .ensures) (if1 .left)
 
 returns-2 : tie.Need-returns-2
+unfolding countLine
 returns-2 c =
     let args = c .before .before .before .before .before .before .before .args in
     let find = c .before .before .before .before .find in
     let if1 = c .before .before .before .if1 in
     let pre = c .before .before .before .before .before .before .before .pre in
-    line-read _ _ (pre) (find .ensures) (countLine _ (args .low) (args .high)) _ _ (if1 .left) (c .behind-line .ensures) (c .before .count-line .ensures)
+    let told = c .before .count-line .ensures in
+    (line-read _ _ (pre) (find .ensures) (countLine _ (args .low) (args .high)) _ _ (if1 .left) (c .behind-line .ensures) (ap number told), rw told (count-kept _ (args .low) (args .high) _ .most))
 
 pub count-at-spec : {M : Type 1} → statement M
 count-at-spec =

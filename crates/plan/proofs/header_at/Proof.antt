@@ -1,6 +1,8 @@
 -- `header_at` reads one line: a line that is there by its kind, and a missing one as 11. Assumes nothing.
+use mathlib.Core.Path.{ap}
+use Prim.Native.Nat.{ℕ}
 use borrow.Author.Needs.{needs}
-use Rattle.plan_line.specs.Lines.{headerLine}
+use Rattle.plan_line.specs.Lines.{answered, headerLine}
 use Rattle.plan.proofs.Marks.{line-start, line-end, line-short, line-missing, line-read}
 use Rattle.plan.proofs.header_at.Statement.{statement}
 use Rattle.plan.proofs.header_at.Tie as tie
@@ -43,11 +45,12 @@ behind-line-requires c κs =
     line-short _ _ (pre) (find .ensures) (if1 .left)
 
 returns-2 : tie.Need-returns-2
+unfolding headerLine
 returns-2 c =
     let find = c .before .before .before .before .find in
     let if1 = c .before .before .before .if1 in
     let pre = c .before .before .before .before .before .before .pre in
-    line-read _ _ (pre) (find .ensures) headerLine _ _ (if1 .left) (c .behind-line .ensures) (c .before .header-line .ensures)
+    line-read _ _ (pre) (find .ensures) headerLine _ _ (if1 .left) (c .behind-line .ensures) (ap (λ (k : ℕ). answered k 1) (c .before .header-line .ensures))
 
 pub header-at-spec : {M : Type 1} → statement M
 header-at-spec =

@@ -1,6 +1,7 @@
 -- `op_at` reads one line: a line that is there by its kind, and a missing one as 11. Assumes nothing.
+use mathlib.Core.Path.{ap}
 use borrow.Author.Needs.{needs}
-use Rattle.plan_line.specs.Lines.{opLine}
+use Rattle.plan_line.specs.Lines.{op, opLine}
 use Rattle.plan.proofs.Marks.{line-start, line-end, line-short, line-missing, line-read}
 use Rattle.plan.proofs.op_at.Statement.{statement}
 use Rattle.plan.proofs.op_at.Tie as tie
@@ -48,13 +49,14 @@ behind-line-requires c κs =
     line-short _ _ (pre) (find .ensures) (if1 .left)
 
 returns-2 : tie.Need-returns-2
+unfolding opLine
 returns-2 c =
     let args = c .before .before .before .before .before .before .before .args in
     let find = c .before .before .before .before .before .find in
     let if1 = c .before .before .before .before .if1 in
     let op-line = c .before .before .op-line in
     let pre = c .before .before .before .before .before .before .before .pre in
-    line-read _ _ (pre) (find .ensures) (opLine (args .count) (args .len)) _ _ (if1 .left) (c .behind-line .ensures) (op-line .ensures)
+    line-read _ _ (pre) (find .ensures) (opLine (args .count) (args .len)) _ _ (if1 .left) (c .behind-line .ensures) (ap op (op-line .ensures))
 
 pub op-at-spec : {M : Type 1} → statement M
 op-at-spec =

@@ -24,12 +24,13 @@ unfolding codeLines
 returns c =
     let args = c .before .before .before .before .before .before .args in
     let count-at = c .before .before .before .count-at in
-    then-stop _ _ (count-at .ensures) (λ (n : ℕ) (l : Left). times n (more (onLine (opLine (args .count) n))) [] l) (withCode (args .node)) _ (c .if1 .taken)
+    then-stop _ _ (count-at .ensures .0) (λ (n : ℕ) (l : Left). times n (more (onLine (opLine (args .count) n))) [] l) (withCode (args .node)) _ (c .if1 .taken)
 
 read-ops-requires : tie.Need-read-ops-requires
 read-ops-requires c κs =
     let count-at = c .before .before .before .count-at in
-    (count-at .ensures .within, c .if1 .left)
+    let pre = c .before .before .before .before .before .before .pre in
+    (count-at .ensures .0 .within, c .if1 .left, pre .2, count-at .ensures .1)
 
 add-n : tie.Need-add-n
 add-n c =
@@ -43,7 +44,7 @@ returns-2 c =
     let count-at = c .before .before .before .before .before .before .count-at in
     let if1 = c .before .before .before .if1 in
     let read-ops = c .before .before .read-ops in
-    then-on _ _ (count-at .ensures) (λ (n : ℕ) (l : Left). times n (more (onLine (opLine (args .count) n))) [] l) (withCode (args .node)) (if1 .left)
+    then-on _ _ (count-at .ensures .0) (λ (n : ℕ) (l : Left). times n (more (onLine (opLine (args .count) n))) [] l) (withCode (args .node)) (if1 .left)
     (mapped-on _ _ _ (withCode (args .node)) _ (read-ops .ensures) (λ ops e. counted-code (args .node) ops e))
 
 pub read-code-spec : {M : Type 1} → statement M

@@ -27,7 +27,7 @@ loop-holds c = (search needs, c .before .pre .2, turn-begin _ _ _ _ _ (c .before
 read-code-requires : tie.Need-read-code-requires Inv-loop μ-loop
 read-code-requires c κs =
     let args = c .before .before .before .args in
-    (c .before .loop .inv .2 .within, c .before .loop .inv .2 .on, codes-small (args .node) (c .before .loop .inv .2 .xs) (c .before .loop .inv .2 .made) (omega (arith, c .before .loop .inv .1, c .before .loop .inv .2 .counted)))
+    (c .before .loop .inv .2 .within, c .before .loop .inv .2 .on, codes-small (args .node) (c .before .loop .inv .2 .xs) (c .before .loop .inv .2 .made) (omega (arith, c .before .before .before .pre .3, c .before .loop .inv .1, c .before .loop .inv .2 .counted)))
 
 returns : tie.Need-returns Inv-loop μ-loop
 returns c =

@@ -21,19 +21,19 @@ unfolding startLines
 returns c =
     let args = c .before .before .before .before .before .before .args in
     let count-at = c .before .before .before .count-at in
-    then-stop _ _ (count-at .ensures) (λ (n : ℕ) (l : Left). times n (startMore (args .count)) [] l) (withEach withStart (args .node)) _ (c .if1 .taken)
+    then-stop _ _ (count-at .ensures .0) (λ (n : ℕ) (l : Left). times n (startMore (args .count)) [] l) (withEach withStart (args .node)) _ (c .if1 .taken)
 
 start-each-requires : tie.Need-start-each-requires
 start-each-requires c κs =
     let count-at = c .before .before .before .count-at in
-    (count-at .ensures .within, c .if1 .left)
+    (count-at .ensures .0 .within, c .if1 .left)
 
 returns-2 : tie.Need-returns-2
 unfolding startLines
 returns-2 c =
     let args = c .before .before .before .before .before .before .before .args in
     let count-at = c .before .before .before .before .count-at in
-    then-on _ _ (count-at .ensures) (λ (n : ℕ) (l : Left). times n (startMore (args .count)) [] l) (withEach withStart (args .node)) (c .before .if1 .left) (c .start-each .ensures)
+    then-on _ _ (count-at .ensures .0) (λ (n : ℕ) (l : Left). times n (startMore (args .count)) [] l) (withEach withStart (args .node)) (c .before .if1 .left) (c .start-each .ensures)
 
 pub read-starts-spec : {M : Type 1} → statement M
 read-starts-spec =

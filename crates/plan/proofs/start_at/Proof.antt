@@ -1,9 +1,12 @@
 -- `start_at` reads one line: a line that is there by its kind, and a missing one as 11. Assumes nothing.
+use mathlib.Core.Path.{ap}
+use native.Mathlib.Omega.{arith}
 use borrow.Author.Needs.{needs}
 use Rattle.plan.proofs.Marks.{line-start, line-end, line-short, line-missing, line-read}
 use Rattle.plan.proofs.start_at.Statement.{statement}
 use Rattle.plan.proofs.start_at.Tie as tie
-use Rattle.plan_line.specs.Lines.{startLine}
+use Rattle.plan_line.specs.Lines.{start, startLine}
+use Rattle.plan_line.proofs.Ranges.{start-kept}
 
 find-requires : tie.Need-find-requires
 find-requires c κs = search needs
@@ -16,7 +19,7 @@ returns c =
     let args = c .before .before .before .before .args in
     let find = c .before .before .find in
     let pre = c .before .before .before .before .pre in
-    line-missing _ _ (pre) (find .ensures) (startLine (args .count) (args .last)) _ (c .before .if1 .taken) (c .stopped-at .ensures)
+    (line-missing _ _ (pre) (find .ensures) (startLine (args .count) (args .last)) _ (c .before .if1 .taken) (c .stopped-at .ensures), omega arith)
 
 sub-start-line : tie.Need-sub-start-line
 sub-start-line c =
@@ -44,12 +47,14 @@ behind-line-requires c κs =
     line-short _ _ (pre) (find .ensures) (if1 .left)
 
 returns-2 : tie.Need-returns-2
+unfolding startLine
 returns-2 c =
     let args = c .before .before .before .before .before .before .args in
     let find = c .before .before .before .before .find in
     let if1 = c .before .before .before .if1 in
     let pre = c .before .before .before .before .before .before .pre in
-    line-read _ _ (pre) (find .ensures) (startLine (args .count) (args .last)) _ _ (if1 .left) (c .behind-line .ensures) (c .before .start-line .ensures)
+    let told = c .before .start-line .ensures in
+    (line-read _ _ (pre) (find .ensures) (startLine (args .count) (args .last)) _ _ (if1 .left) (c .behind-line .ensures) (ap start told), rw told (start-kept (args .count) (args .last) _ .process))
 
 pub start-at-spec : {M : Type 1} → statement M
 start-at-spec =

@@ -11,7 +11,7 @@ use Rattle.plan.specs.Plans.{lastFrom, withStart, withEach}
 use Rattle.plan.specs.Reading.{onLine}
 use Rattle.plan_line.specs.declared.Start.{Start}
 use Rattle.plan.proofs.Loops.{mapped-on, left-one, remains, Turn, turn-begin, turn-more, turn-stop, turn-end}
-use Rattle.plan.proofs.Nodes.{begun, begun-more, start-read}
+use Rattle.plan.proofs.Nodes.{begun, begun-more, start-read, started}
 use Rattle.plan.proofs.start_each.Statement.{statement}
 use Rattle.plan.proofs.start_each.Tie as tie
 
@@ -35,11 +35,24 @@ returns c =
     let start-at = c .before .before .before .start-at in
     let turn = c .before .before .before .before .before .loop in
     mapped-on _ _ (begun (args .node)) (withEach withStart (args .node)) _
-    (turn-stop _ _ _ (turn .inv .1) (λ (x : Start). x) (start-read _ (turn .mark) (args .count) (args .node) (turn .inv .1 .xs) (start-at .ensures) (turn .inv .1 .made)) (left-one _ _ (loop-test .taken)) (args .node, 0) (c .if1 .taken))
+    (turn-stop _ _ _ (turn .inv .1) (λ (x : Start). x) (start-read _ (turn .mark) (args .count) (args .node) (turn .inv .1 .xs) (start-at .ensures .0) (turn .inv .1 .made)) (left-one _ _ (loop-test .taken)) (args .node, 0) (c .if1 .taken))
     (λ starts e. ap (λ (b : Node × ℕ). b .0) e)
 
-with-start-requires : tie.Need-with-start-requires Inv-loop μ-loop
-with-start-requires c κs = search needs
+index-requires : tie.Need-index-requires Inv-loop μ-loop
+index-requires c κs = search needs
+
+fresh-requires : tie.Need-fresh-requires Inv-loop μ-loop
+fresh-requires c κs = search needs
+
+mul-p : tie.Need-mul-p Inv-loop μ-loop
+mul-p c =
+    let start-at = c .before .before .before .before .before .before .start-at in
+    omega (arith, c .before .index .ensures, start-at .ensures .1)
+
+element-set-from-p : tie.Need-element-set-from-p Inv-loop μ-loop
+element-set-from-p c =
+    let start-at = c .before .before .before .before .before .before .start-at in
+    omega (arith, c .before .index .ensures, start-at .ensures .1)
 
 add-i : tie.Need-add-i Inv-loop μ-loop
 add-i c = search needs
@@ -49,14 +62,14 @@ loop-less c = search needs
 
 loop-again : tie.Need-loop-again Inv-loop μ-loop
 loop-again c =
-    let args = c .before .before .before .before .before .before .before .before .before .args in
-    let if1 = c .before .before .if1 in
-    let loop-test = c .before .before .before .before .before .before .loop-test in
-    let start-at = c .before .before .before .before .before .start-at in
-    let turn = c .before .before .before .before .before .before .before .loop in (
+    let args = c .before .before .before .before .before .before .before .before .before .before .args in
+    let if1 = c .before .before .before .if1 in
+    let loop-test = c .before .before .before .before .before .before .before .loop-test in
+    let start-at = c .before .before .before .before .before .before .start-at in
+    let turn = c .before .before .before .before .before .before .before .before .loop in (
       search needs,
-      turn-more _ _ _ (turn .inv .1) (λ (x : Start). x) (start-read _ (turn .mark) (args .count) (args .node) (turn .inv .1 .xs) (start-at .ensures) (turn .inv .1 .made)) (left-one _ _ (loop-test .taken)) (if1 .left)
-          (λ x e. begun-more (args .node) (turn .inv .1 .xs) (c .with-start .ensures) (turn .inv .1 .made) e),
+      turn-more _ _ _ (turn .inv .1) (λ (x : Start). x) (start-read _ (turn .mark) (args .count) (args .node) (turn .inv .1 .xs) (start-at .ensures .0) (turn .inv .1 .made)) (left-one _ _ (loop-test .taken)) (if1 .left)
+          (λ x e. begun-more (args .node) (turn .inv .1 .xs) (started (turn .n) (start-at .result .start) (c .before .index .ensures) (c .fresh .ensures)) (turn .inv .1 .made) e),
     )
 
 returns-2 : tie.Need-returns-2 Inv-loop μ-loop
@@ -73,7 +86,10 @@ start-each-spec =
     loop-holds
     start-at-requires
     returns
-    with-start-requires
+    index-requires
+    fresh-requires
+    mul-p
+    element-set-from-p
     add-i
     loop-less
     loop-again
