@@ -16,7 +16,8 @@ use Rattle.text.specs.Values.{plusOf, minusOf, intOf, byLetter, valueOf}
 use Rattle.plan_line.specs.declared.Start.{Start}
 use Rattle.plan_line.specs.Ops.{clauseKind, operandOf, withOperand, operandsOf, opOf, codedOf}
 use Rattle.plan_line.specs.Lines.{headerTold, headerLine, countTold, countLine, opTold, opLine, startOf, risen, startTold, startLine}
-use Rattle.plan.specs.Plans.{Plan, codeLines, startLines, planLines, misplacedIn, misplacedFrom, misplaced, nodeOf, refusedLoad, checked, loadOf}
+use Rattle.placement.specs.Misplaced.{misplacedIn, misplacedFrom}
+use Rattle.plan.specs.Plans.{Plan, codeLines, startLines, planLines, misplaced, nodeOf, refusedLoad, checked, loadOf}
 use Rattle.plan_line.specs.Ops.{worse}
 use Rattle.plan.specs.Reading.{onLine, times, endOf}
 

@@ -1,4 +1,5 @@
 pub mod Marks
 pub mod Loops
 pub mod Nodes
+pub mod Whole
 pub mod Examples

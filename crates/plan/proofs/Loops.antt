@@ -1,10 +1,13 @@
--- Laws of a loop that reads one thing after another and puts each behind the others: what is read and what is left give the answer.
--- Assumes nothing.
+-- Laws of reading one thing after another: what is read and what is left give the answer. Assumes nothing.
+--   told-good told-bad   what is read up to a mark, by its refusal
+--   mapped-on            what is made of a result, made of it otherwise
+--   made-stop made-on    behind a result of which something is made, a refusal ends the reading, and else it goes on
+--   then-stop then-on    the same, where the result is handed on as it is
 --   Turn        the invariant, where i are read, j are left, and b is what they made
 --   turn-begin turn-more turn-stop turn-end   the start, the turns and the ends of such a loop
 use mathlib.Core.Bool.{Bool, true, false}
 use mathlib.Core.List.{List, [], _∷_, _++_}
-use mathlib.Core.Path.{_≡_, refl, sym, ap, _∙_}
+use mathlib.Core.Path.{_≡_, refl, sym, ap, subst, _∙_}
 use Prim.Native.Nat.{ℕ, suc, _+_, _-_, _<_}
 use native.Mathlib.Omega.{arith}
 use borrow.Author.Tests.{eq-eqb, ne-eqb, eqb-true, eqb-false}
@@ -30,12 +33,12 @@ mapped-same (bad k n) = refl
 mapped-same (good a l) = refl
 
 -- what was mapped to a refusal, and what to a result
-mapped-bad : {A B : Type 0} (f : A → B) (r : Read A) {k n : ℕ} → bad k n ≡ mapped f r → r ≡ bad k n
+pub mapped-bad : {A B : Type 0} (f : A → B) (r : Read A) {k n : ℕ} → bad k n ≡ mapped f r → r ≡ bad k n
 unfolding mapped
 mapped-bad f (bad k n) e = cc
 mapped-bad f (good a l) e = let z : _≡_ {A = ℕ} 0 1 = cc in let no : ⊥ = omega arith in absurd no
 
-mapped-good : {A B : Type 0} (f : A → B) (r : Read A) {b : B} {l : Left} → good b l ≡ mapped f r → (a : A) × (r ≡ good a l) × (b ≡ f a)
+pub mapped-good : {A B : Type 0} (f : A → B) (r : Read A) {b : B} {l : Left} → good b l ≡ mapped f r → (a : A) × (r ≡ good a l) × (b ≡ f a)
 unfolding mapped
 mapped-good f (bad k n) e = let z : _≡_ {A = ℕ} 0 1 = cc in let no : ⊥ = omega arith in absurd no
 mapped-good f (good a l) e = (a, cc, cc)
@@ -56,19 +59,31 @@ module _ {A B C : Type 0} (s : List ℕ) (m : Mark) (F : A → B) (G : A → C) 
   pub mapped-on : Reached s m c (mapped G r)
   mapped-on = record { is = mapped-by (eqb (m .refusal) 0) refl; within = q .within }
 
--- ---- one thing, and then another
-module _ {A B C : Type 0} (s : List ℕ) (x : Mark) {y : A} {r : Read A} (q : Reached s x y r) (f : A → Left → Read B) (F : B → C) where
-  pub then-stop : (z : C) → (x .refusal ≡ 0 → ⊥) → Reached s x z (mapped F (thenOn r f))
+-- ---- one thing, of which b is made, and then another
+module _ {A B C D : Type 0} (s : List ℕ) (x : Mark) (G : A → B) {b : B} (r : Read A) (q : Reached s x b (mapped G r)) (f : A → Left → Read C) (F : C → D) where
+  pub made-stop : (z : D) → (x .refusal ≡ 0 → ⊥) → Reached s x z (mapped F (thenOn r f))
   unfolding mapped
-  then-stop z h =
-      let was : r ≡ bad (x .refusal) (x .line) = sym (q .is) ∙ told-bad s x y h in
+  made-stop z h =
+      let was = mapped-bad G r (sym (told-bad s x b h) ∙ q .is) in
       record { is = told-bad s x z h ∙ rw was; within = q .within }
 
-  pub then-on : {e : Mark} {z : C} → x .refusal ≡ 0 → Reached s e z (mapped F (f y (leftAt s x))) → Reached s e z (mapped F (thenOn r f))
+  pub made-on : {e : Mark} {z : D} → x .refusal ≡ 0 → ((a : A) → b ≡ G a → Reached s e z (mapped F (f a (leftAt s x)))) → Reached s e z (mapped F (thenOn r f))
   unfolding mapped
-  then-on h p =
-      let was : r ≡ good y (leftAt s x) = sym (q .is) ∙ told-good s x y h in
-      record { is = p .is ∙ rw was; within = p .within }
+  made-on h p =
+      let was = mapped-good G r (sym (told-good s x b h) ∙ q .is) in
+      let next = p (was .0) (was .2) in
+      record { is = next .is ∙ ap (λ (u : Read A). mapped F (thenOn u f)) (sym (was .1)); within = next .within }
+
+-- the same, where it is handed on as it is
+module _ {A B C : Type 0} (s : List ℕ) (x : Mark) {y : A} {r : Read A} (q : Reached s x y r) (f : A → Left → Read B) (F : B → C) where
+  plain : Reached s x y (mapped (λ (a : A). a) r)
+  plain = record { is = q .is ∙ mapped-same r; within = q .within }
+
+  pub then-stop : (z : C) → (x .refusal ≡ 0 → ⊥) → Reached s x z (mapped F (thenOn r f))
+  then-stop z h = made-stop s x (λ (a : A). a) r plain f F z h
+
+  pub then-on : {e : Mark} {z : C} → x .refusal ≡ 0 → Reached s e z (mapped F (f y (leftAt s x))) → Reached s e z (mapped F (thenOn r f))
+  then-on {e} {z} h p = made-on s x (λ (a : A). a) r plain f F h (λ a g. subst (λ (u : A). Reached s e z (mapped F (f u (leftAt s x)))) g p)
 
 -- ---- one after another
 -- one of those that are left

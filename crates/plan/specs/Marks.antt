@@ -4,14 +4,16 @@
 --   mapped f r        what is read, its result changed by f
 --   stopped m k       mark m with refusal k
 --   behind m e k      the mark behind the line of m that ends at e; with a refusal, m and the refusal
+--   endMark s m       the mark behind the end of s; where something is left, m and 11
 --   Within s m        m lies within s, and s within the limit of a plan
 --   Reached s m a r   reading up to m, with result a, is r
-use mathlib.Core.Bool.{cond}
+use mathlib.Core.Bool.{_&&_, cond}
 use mathlib.Core.List.{List}
 use mathlib.Core.Path.{_≡_}
 use Prim.Native.Nat.{ℕ, _+_, _≤_}
-use lib.Dec.{eqb}
+use lib.Dec.{eqb, ltb}
 use lib.ListN.{length, drop}
+use Rattle.text.specs.Numbers.{malformed}
 use Rattle.text.specs.Parts.{linesOf}
 use Rattle.plan.specs.declared.Mark.{Mark}
 use Rattle.plan.specs.Reading.{Left, Read, bad, good}
@@ -31,6 +33,10 @@ stopped m k = record { refusal = k; line = m .line; at = m .at }
 
 unfoldable pub behind : Mark → ℕ → ℕ → Mark
 behind m e k = cond (eqb k 0) (record { refusal = 0; line = m .line + 1; at = e + 1 }) (stopped m k)
+
+-- "a last line without it is 11", "surplus line"
+unfoldable pub endMark : List ℕ → Mark → Mark
+endMark s m = cond (eqb (m .refusal) 0 && ltb (m .at) (length s)) (stopped m malformed) m
 
 pub record Within (s : List ℕ) (m : Mark) : Type 0 where
   pub line : m .line ≤ m .at + 1

@@ -22,9 +22,9 @@ use Rattle.node.specs.Ops.{stopOp}
 use Rattle.node.specs.Processes.{unborn, fresh}
 use Rattle.node.specs.Rows.{emptyRow}
 use Rattle.node.specs.Values.{intZero}
-use Rattle.rules.specs.Behaviours.{Instruction, wellPlaced}
 use Rattle.rules.specs.Nodes.{behavioursOf}
 use Rattle.text.specs.Parts.{linesOf}
+use Rattle.placement.specs.Misplaced.{firstCode, misplacedFrom}
 use Rattle.plan_line.specs.declared.Start.{Start}
 use Rattle.plan_line.specs.Lines.{behavioursKey, codeKey, startsKey, headerLine, countLine, opLine, startLine}
 use Rattle.plan.specs.declared.Loaded.{Loaded}
@@ -74,22 +74,8 @@ planLines l =
 
 -- ---- 14
 
--- of the ops xs, of which the first stands at place t of the code and on line n
-unfoldable pub misplacedIn : List Instruction → ℕ → ℕ → List Instruction → ℕ
-misplacedIn code t n [] = 0
-misplacedIn code t n (x ∷ xs) = cond (wellPlaced code t x) (misplacedIn code (t + 1) (n + 1) xs) n
-
-abbrev pub orElse : ℕ → ℕ → ℕ
-orElse m n = cond (eqb m 0) n m
-
--- of codes of which the first has its line `code=` at n
-unfoldable pub misplacedFrom : ℕ → List (List Instruction) → ℕ
-misplacedFrom n [] = 0
-misplacedFrom n (code ∷ codes) = orElse (misplacedIn code 0 (n + 1) code) (misplacedFrom (n + 1 + length code) codes)
-
--- the first `code=` is on line 3
 unfoldable pub misplaced : Node → ℕ
-misplaced n = misplacedFrom 3 (behavioursOf n)
+misplaced n = misplacedFrom firstCode (behavioursOf n)
 
 -- ---- the started node
 

@@ -10,10 +10,18 @@ use text::MALFORMED;
 ghost use mathlib.Core.List.{[]};
 ghost use mathlib.Core.Path.{_≡_};
 ghost use Prim.Native.Nat.{_≤_, _<_};
+ghost use lib.ListN.{length};
+ghost use Rattle.text.specs.Parts.{linesOf};
 ghost use Rattle.plan_line.specs.Lines.{headerLine, countLine, opLine, startLine};
-ghost use Rattle.plan.specs.Plans.{more, codeLines, startMore, startLines, withOps, withCode, withStart, withEach};
-ghost use Rattle.plan.specs.Marks.{leftAt, mapped, stopped, behind, Within, Reached};
+ghost use Rattle.plan.specs.Plans.{more, emptyNode, nodeOf, planLines, refusedLoad, loadOf, codeLines, startMore, startLines, withOps, withCode, withStart, withEach};
+ghost use Rattle.plan.specs.Marks.{leftAt, mapped, endMark, stopped, behind, Within, Reached};
 ghost use Rattle.plan.specs.Reading.{onLine, times};
+
+// Text above 16,384 bytes.
+const TOO_LONG: u8 = 10;
+
+// A recv without its clauses, a stray clause or a target place on a clause.
+const ILL_PLACED: u8 = 14;
 
 // What a load tells: the number, 10 to 14 or 0; the line, from 1, or 0; and the node, which is the blank one with a refusal.
 pub struct Loaded {
@@ -48,6 +56,100 @@ struct StartAt {
 struct Placed {
     mark: Mark,
     node: Node,
+}
+
+// The node of a plan text, or a refusal with its line.
+pub fn load(text: &[u8]) -> Loaded
+    ensures { λ r. ⌜ r ≡ loadOf (now (text .entry)) ⌝ }
+{
+    if 16384 < text.len() {
+        return refused_load(TOO_LONG, 0);
+    }
+    let x = read_plan(text);
+    let m = x.mark;
+    if m.refusal != 0 {
+        return refused_load(m.refusal, m.line);
+    }
+    let node = x.node;
+    let lens = node.lens;
+    let ops = node.ops;
+    let line = placement::misplaced(node.count, lens, ops);
+    if line != 0 {
+        return refused_load(ILL_PLACED, line);
+    }
+    Loaded {
+        number: 0,
+        line: 0,
+        node,
+    }
+}
+
+// A refused load gives the blank node.
+fn refused_load(number: u8, line: usize) -> Loaded
+    ensures { λ r. ⌜ r ≡ refusedLoad number line ⌝ }
+{
+    Loaded {
+        number,
+        line,
+        node: Node::blank(),
+    }
+}
+
+// The lines of a plan, and the node that they make.
+fn read_plan(text: &[u8]) -> Placed
+    requires { ⌜ length (now text) ≤ 16384 ⌝ }
+    ensures { λ r. ⌜ Reached (now (text .entry)) (r .mark) (r .node) (mapped nodeOf (planLines (record { text = linesOf (now (text .entry)); first = 1 }))) ⌝ }
+{
+    let node = empty_node();
+    let first = Mark {
+        refusal: 0,
+        line: 1,
+        at: 0,
+    };
+    let header = header_at(text, first);
+    if header.refusal != 0 {
+        return Placed { mark: header, node };
+    }
+    let x = count_at(text, header, b"behaviours=", 1, 8);
+    let mark = x.mark;
+    if mark.refusal != 0 {
+        return Placed { mark, node };
+    }
+    let codes = read_codes(text, mark, node, x.number);
+    let behind = codes.mark;
+    if behind.refusal != 0 {
+        return Placed { mark: behind, node };
+    }
+    let coded = codes.node;
+    let starts = read_starts(text, behind, coded, x.number);
+    let started = starts.node;
+    Placed {
+        mark: read_end(text, starts.mark),
+        node: started,
+    }
+}
+
+// The end of a text: a surplus line, whole or not, is 11.
+fn read_end(text: &[u8], m: Mark) -> Mark
+    ensures { λ r. ⌜ r ≡ endMark (now (text .entry)) m ⌝ }
+{
+    if m.refusal != 0 {
+        return m;
+    }
+    if m.at < text.len() {
+        return stopped_at(m, MALFORMED);
+    }
+    m
+}
+
+// A node without behaviours and processes.
+fn empty_node() -> Node
+    ensures { λ r. ⌜ r ≡ emptyNode ⌝ }
+{
+    let mut n = Node::blank();
+    n.count = 0;
+    n.lens[0] = 0;
+    n
 }
 
 fn header_at(text: &[u8], m: Mark) -> Mark
