@@ -2,4 +2,5 @@ pub mod Marks
 pub mod Loops
 pub mod Nodes
 pub mod Whole
+pub mod Kept
 pub mod Examples
