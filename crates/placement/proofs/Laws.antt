@@ -3,25 +3,25 @@
 --   clauses-few clauses-begin clause-stop clause-more clauses-end   the loop over the clauses of a recv
 --   in-begin in-stop in-more in-end       the loop over the ops of a behaviour
 --   from-stop from-more from-end          the loop over the behaviours
-use mathlib.Core.Bool.{Bool, true, false, _&&_, not, cond, and-true, and-false}
-use mathlib.Core.List.{List, [], _∷_}
-use mathlib.Core.Path.{_≡_, refl, sym, _∙_, ap}
-use Prim.Native.Nat.{ℕ, suc, _+_, _-_, _*_, _≤_, _<_}
+use mathlib.Core.Bool.{Bool, true, false, not, cond, and-true}
+use mathlib.Core.List.{List, []}
+use mathlib.Core.Path.{_≡_, sym, _∙_, ap}
+use Prim.Native.Nat.{ℕ, _+_, _-_, _*_, _≤_, _<_}
 use native.Mathlib.Numerals.{add-one}
 use native.Mathlib.Omega.{arith}
 use borrow.Author.Tests.{eq-eqb, ne-eqb, lt-ltb, le-leb, lt-leb}
-use lib.Dec.{eqb, leb}
+use lib.Dec.{eqb}
 use lib.ListN.{length, getD, take, drop, length-take, length-drop, drop-of-length-le}
 use lib.Seq.{drop-cons, getD-take, getD-drop}
 use Rattle.node.specs.declared.Op.{Op}
-use Rattle.node.specs.Lists.{allFrom, allOf}
+use Rattle.node.specs.Lists.{allFrom}
 use Rattle.node.specs.Nodes.{noOp}
 use Rattle.node.specs.Ops.{kindsOf}
 use Rattle.node.proofs.Lists.{all-more, all-stop, all-end, allOf-from}
-use Rattle.rules.specs.Behaviours.{Instruction, clauseCount, due, hasClauses, instruction, isClause, isRecv, onClause, targetsFree, wellPlaced}
+use Rattle.rules.specs.Behaviours.{Instruction, due, hasClauses, instruction, isClause, onClause, targetsFree, wellPlaced}
 use Rattle.behaviours.specs.Codes.{codeIn, hasTarget}
 use Rattle.behaviours.proofs.Codes.{clause-count, code-at, code-length, on-clause-at, on-clause-end, target-free}
-use Rattle.placement.specs.Misplaced.{misplacedIn, misplacedFrom, orElse}
+use Rattle.placement.specs.Misplaced.{misplacedIn, misplacedFrom}
 
 -- ---- one op
 
@@ -40,7 +40,7 @@ module _ (n : ℕ) (ops : List Op) (k t : ℕ) (h : t < n) {o : Op} (at : o ≡ 
   module _ {r : Bool} where
     pub placed-recv : o .number ≡ 10 → r ≡ hasClauses (o .small) (drop (t + 1) (codeIn n ops k)) → r ≡ wellPlaced (codeIn n ops k) t (getD (codeIn n ops k) t (instruction noOp))
     unfolding wellPlaced instruction
-    placed-recv e p = rw op-is (rw (recv-free e, clause-count o e, eq-eqb (o .number) 10 e, ap (λ (j : ℕ). eqb j 11) e, and-true, and-true) p)
+    placed-recv e p = rw op-is (rw (recv-free e, clause-count o e, eq-eqb (o .number) 10 e, ap (λ (j : ℕ). eqb j 11) e) (p ∙ sym (and-true _) ∙ sym (and-true _)))
 
     pub placed-stray : o .number ≡ 11 → due 0 (take t (codeIn n ops k)) ≡ 0 → r ≡ false → r ≡ wellPlaced (codeIn n ops k) t (getD (codeIn n ops k) t (instruction noOp))
     unfolding wellPlaced instruction

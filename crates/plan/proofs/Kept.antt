@@ -4,10 +4,10 @@
 --   plan-kept                        a plan that is read does
 use mathlib.Core.Bool.{Bool, true, false, So, _&&_}
 use mathlib.Core.List.{List, [], _∷_, _++_}
-use mathlib.Core.Path.{_≡_, refl, sym, ap, subst, _∙_}
+use mathlib.Core.Path.{_≡_, refl, sym, ap, subst}
 use Prim.Native.Nat.{ℕ, zero, suc, _+_, _≤_}
 use native.Mathlib.Omega.{arith}
-use borrow.Author.Tests.{le-leb, leb-true, eqb-true}
+use borrow.Author.Tests.{le-leb, eqb-true}
 use lib.Dec.{eqb, leb}
 use lib.ListN.{length, length-append}
 use Rattle.node.specs.declared.Op.{Op}
@@ -15,7 +15,7 @@ use Rattle.node.specs.Lists.{allOf}
 use Rattle.rules.specs.Answers.{Answer, refused, done, need}
 use Rattle.rules.specs.Behaviours.{inRange, instruction}
 use Rattle.rules.specs.Values.{isNumber}
-use Rattle.rules.proofs.All.{both, parts, allOf-append}
+use Rattle.rules.proofs.All.{both, allOf-append}
 use Rattle.behaviours.proofs.Codes.{in-range-by}
 use Rattle.text.specs.Parts.{Lines}
 use Rattle.plan_line.specs.declared.Start.{Start}

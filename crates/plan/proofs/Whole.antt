@@ -21,7 +21,7 @@ use Rattle.plan.specs.declared.Loaded.{Loaded}
 use Rattle.plan.specs.declared.Mark.{Mark}
 use Rattle.plan.specs.Marks.{mapped, endMark, Reached}
 use Rattle.plan.specs.Plans.{Plan, tooLong, illPlaced, more, codeLines, startLines, planLines, emptyNode, withCode, withStart, withEach, nodeOf, misplaced, refusedLoad, checked, loadedFrom, loadOf}
-use Rattle.plan.specs.Reading.{Left, Read, bad, good, onLine, thenOn, times, endOf}
+use Rattle.plan.specs.Reading.{Left, Read, onLine, thenOn, times, endOf}
 use Rattle.plan.proofs.Loops.{told-good, told-bad, mapped-bad, mapped-good, made-stop, made-on}
 use Rattle.plan.proofs.Marks.{end-stopped, end-read}
 

@@ -5,8 +5,8 @@
 --   op-kept           the op of a line: its number, and its operands by their kinds
 use mathlib.Core.Bool.{Bool, true, false, So, _&&_, _||_, not, cond}
 use mathlib.Core.List.{List, [], _∷_}
-use mathlib.Core.Path.{_≡_, refl, sym, ap, subst, _∙_}
-use Prim.Native.Nat.{ℕ, zero, suc, _+_, _≤_, _<_}
+use mathlib.Core.Path.{_≡_, refl, sym, subst, _∙_}
+use Prim.Native.Nat.{ℕ, zero, suc, _+_, _<_}
 use native.Mathlib.Omega.{arith}
 use borrow.Author.Tests.{le-leb, leb-true, ltb-true, eqb-true, not-true}
 use lib.Dec.{eqb, leb, ltb}
@@ -20,7 +20,7 @@ use Rattle.node.specs.Values.{intZero, pid}
 use Rattle.rules.specs.Behaviours as rules
 use Rattle.rules.specs.Behaviours.{operand, operandInRange}
 use Rattle.rules.specs.Values.{fitsInt, isNumber, valueSound}
-use Rattle.rules.proofs.All.{both, parts, allOf-at, rising-at, rising-length}
+use Rattle.rules.proofs.All.{both, parts, allOf-at, rising-at}
 use Rattle.text.specs.declared.Number.{Number}
 use Rattle.text.specs.declared.Number.the-variants as number
 use Rattle.text.specs.declared.Parsed.{Parsed}
@@ -30,7 +30,7 @@ use Rattle.text.specs.Values.{accepted, byLetter, intOf, minusOf, noValue, plus
 use Rattle.plan_line.specs.declared.Coded.{Coded}
 use Rattle.plan_line.specs.declared.Operand.{Operand}
 use Rattle.plan_line.specs.Lines.{opKey, opTold}
-use Rattle.plan_line.specs.Ops.{bare, clauseKind, clauseWords, codedOf, exact, joined, noCode, operandOf, operandsOf, opOf, opWords, withOperand, worse}
+use Rattle.plan_line.specs.Ops.{bare, clauseKind, clauseWords, codedOf, exact, joined, noCode, operandOf, operandsOf, opOf, opWords, withOperand}
 use Rattle.plan_line.proofs.Ops.{kinds-length}
 use Rattle.plan_line.proofs.Ranges.{ranged-kept, worse-none}
 

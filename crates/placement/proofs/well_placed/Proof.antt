@@ -1,6 +1,5 @@
 -- `well_placed` gives rule 14 of an op, by its number. Assumes nothing.
 use mathlib.Core.Path.{refl, sym, _∙_}
-use native.Mathlib.Omega.{arith}
 use borrow.Author.Needs.{needs}
 use Rattle.placement.proofs.Laws.{placed-recv, placed-stray, placed-due, placed-other}
 use Rattle.placement.proofs.well_placed.Statement.{statement}

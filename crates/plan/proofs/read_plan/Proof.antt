@@ -1,5 +1,4 @@
 -- `read_plan` reads the lines of a plan. Assumes nothing.
-use mathlib.Core.List.{List}
 use mathlib.Core.Path.{ap, _∙_}
 use borrow.Author.Needs.{needs}
 use Rattle.node.specs.declared.Node.{Node}
