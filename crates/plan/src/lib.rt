@@ -66,9 +66,9 @@ pub fn load(text: &[u8]) -> Loaded
         return refused_load(TOO_LONG, 0);
     }
     let x = read_plan(text);
-    let m = x.mark;
-    if m.refusal != 0 {
-        return refused_load(m.refusal, m.line);
+    let end = x.mark;
+    if end.refusal != 0 {
+        return refused_load(end.refusal, end.line);
     }
     let node = x.node;
     let lens = node.lens;
@@ -345,7 +345,7 @@ fn start_each(text: &[u8], m: Mark, node: Node, count: u8, len: u8) -> Placed
         }
         let s = x.start;
         last = s.process;
-        let k = ProcessNumber(last).index();
+        let k = ProcessNumber(s.process).index();
         let p = Process::fresh(BehaviourNumber(s.behaviour), Value::ZERO);
         n.processes[k] = p;
         i += 1;
