@@ -37,7 +37,7 @@ struct Mark {
     at: usize,
 }
 
-// What a line gave, and the mark behind it.
+// What lines gave, and the mark behind them.
 struct CountAt {
     mark: Mark,
     number: u8,
@@ -152,6 +152,7 @@ fn empty_node() -> Node
     n
 }
 
+// The line at m, which has to be `plan=1`; a line that is missing or lacks its byte 10 is 11, here and below.
 fn header_at(text: &[u8], m: Mark) -> Mark
     requires { ⌜ Within (now text) m ⌝ }
     ensures { λ r. ⌜ Reached (now (text .entry)) r 1 (onLine headerLine (leftAt (now (text .entry)) m)) ⌝ }
@@ -164,6 +165,7 @@ fn header_at(text: &[u8], m: Mark) -> Mark
     behind_line(m, e, plan_line::header_line(&text[at..e]))
 }
 
+// The line at m, with a key and a number from low to high.
 fn count_at(text: &[u8], m: Mark, key: &[u8], low: u8, high: u8) -> CountAt
     requires { ⌜ Within (now text) m ⌝ }
     ensures { λ r. ⌜ (Reached (now (text .entry)) (r .mark) (r .number) (onLine (countLine (now (key .entry)) low high) (leftAt (now (text .entry)) m))) × (r .number ≤ high) ⌝ }
@@ -183,6 +185,7 @@ fn count_at(text: &[u8], m: Mark, key: &[u8], low: u8, high: u8) -> CountAt
     }
 }
 
+// The line at m, with an op of a code with `len` ops.
 fn op_at(text: &[u8], m: Mark, count: u8, len: u8) -> OpAt
     requires { ⌜ Within (now text) m ⌝ }
     ensures { λ r. ⌜ Reached (now (text .entry)) (r .mark) (r .op) (onLine (opLine count len) (leftAt (now (text .entry)) m)) ⌝ }
@@ -203,6 +206,7 @@ fn op_at(text: &[u8], m: Mark, count: u8, len: u8) -> OpAt
     }
 }
 
+// The line at m, with a start behind a start of process `last`.
 fn start_at(text: &[u8], m: Mark, count: u8, last: u8) -> StartAt
     requires { ⌜ Within (now text) m ⌝ }
     ensures { λ r. ⌜ (Reached (now (text .entry)) (r .mark) (r .start) (onLine (startLine count last) (leftAt (now (text .entry)) m))) × (r .start .process ≤ 16) ⌝ }
@@ -226,6 +230,7 @@ fn start_at(text: &[u8], m: Mark, count: u8, last: u8) -> StartAt
     }
 }
 
+// The mark of a refused line.
 fn stopped_at(m: Mark, refusal: u8) -> Mark
     ensures { λ r. ⌜ r ≡ stopped m refusal ⌝ }
 {
@@ -251,8 +256,8 @@ fn behind_line(m: Mark, e: usize, refusal: u8) -> Mark
     }
 }
 
-// The ops of a behaviour with `len` ops, behind the others. Each is stored where it stays, since a node is too large to be handed on
-// for each.
+// The ops of a behaviour with `len` ops, behind the others. Each is stored where it stays: a node is too large to be handed on with
+// each op.
 fn read_ops(text: &[u8], m: Mark, node: Node, count: u8, len: u8) -> Placed
     requires { ⌜ (Within (now text) m) × (m .refusal ≡ 0) × (node .count < 8) × (len ≤ 32) ⌝ }
     ensures { λ r. ⌜ Reached (now (text .entry)) (r .mark) (r .node) (mapped (withOps node) (times len (more (onLine (opLine count len))) [] (leftAt (now (text .entry)) m))) ⌝ }
