@@ -10,7 +10,7 @@ stopped-at-requires c κs = search needs
 
 returns : tie.Need-returns
 unfolding behind
-returns c = simp (ne-eqb _ _ (c .before .if1 .taken)) (c .stopped-at .ensures)
+returns c = simp (ne-eqb _ 0 (c .before .if1 .taken)) (c .stopped-at .ensures)
 
 add-t5 : tie.Need-add-t5
 add-t5 c = search needs
@@ -20,7 +20,7 @@ add-t6 c = search needs
 
 returns-2 : tie.Need-returns-2
 unfolding behind
-returns-2 c = simp (eq-eqb _ _ (c .before .if1 .left))
+returns-2 c = simp (eq-eqb _ 0 (c .before .if1 .left))
 
 pub behind-line-spec : {M : Type 1} → statement M
 behind-line-spec = tie.close (tie.spec stopped-at-requires returns add-t5 add-t6 returns-2)
