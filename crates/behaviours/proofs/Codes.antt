@@ -87,7 +87,7 @@ landed : (code : List Instruction) (h : Bool) (t : ℕ) → cond h (not (onClaus
 landed code true t = refl
 landed code false t = rw (on-clause-end code (length code) (omega arith))
 
-target-free : (code : List Instruction) (o : Op) → targetsFree code (instruction o) ≡ not (onClause code (cond (hasTarget (o .number)) (o .target) (length code)))
+pub target-free : (code : List Instruction) (o : Op) → targetsFree code (instruction o) ≡ not (onClause code (cond (hasTarget (o .number)) (o .target) (length code)))
 unfolding targetsFree instruction hasTarget
 target-free code o =
     allTwo-map (λ kind x. not (eqb kind 4) || not (onClause code (x .number))) (operand o) (kindsOf (o .number))

@@ -13,10 +13,13 @@ use Rattle.rules.specs.Nodes.{code, behavioursOf}
 use Rattle.text.specs.Numbers.{isDigit, unsignedForm, negative, unsigned, numberForm, decimal, numberValue, numberOf, rangedOf}
 use Rattle.text.specs.Parts.{split, inFront, lineThen, lastApart, linesOf, fieldsOf, equal, startsWith, indexOf}
 use Rattle.text.specs.Values.{plusOf, minusOf, intOf, byLetter, valueOf}
-use Rattle.plan.specs.declared.Start.{Start}
-use Rattle.plan.specs.Ops.{clauseKind, operandOf, withOperand, operandsOf, opOf, codedOf}
-use Rattle.plan.specs.Plans.{headerLine, countLine, opLine, startOf, risenStart, startLine, Plan, codeLines, startLines, planLines, misplacedIn, misplacedFrom, misplaced, nodeOf, refusedLoad, checked, loadOf}
-use Rattle.plan.specs.Reading.{worse, onLine, times, endOf}
+use Rattle.plan_line.specs.declared.Start.{Start}
+use Rattle.plan_line.specs.Ops.{clauseKind, operandOf, withOperand, operandsOf, opOf, codedOf}
+use Rattle.plan_line.specs.Lines.{headerTold, headerLine, countTold, countLine, opTold, opLine, startOf, risen, startTold, startLine}
+use Rattle.placement.specs.Misplaced.{misplacedIn, misplacedFrom}
+use Rattle.plan.specs.Plans.{Plan, codeLines, startLines, planLines, misplaced, nodeOf, refusedLoad, checked, loadOf}
+use Rattle.plan_line.specs.Ops.{worse}
+use Rattle.plan.specs.Reading.{onLine, times, endOf}
 
 opWith : ℕ → ℕ → ℕ → ℕ → ℕ → Value → Op
 opWith k r s t small v = record { number = k; r = r; s = s; target = t; small = small; value = v; process = record { 0 = 0 }; behaviour = record { 0 = 0 } }
@@ -39,7 +42,7 @@ samplePlan = record {
 }
 
 sample : loadOf (112 ∷ 108 ∷ 97 ∷ 110 ∷ 61 ∷ 49 ∷ 10 ∷ 98 ∷ 101 ∷ 104 ∷ 97 ∷ 118 ∷ 105 ∷ 111 ∷ 117 ∷ 114 ∷ 115 ∷ 61 ∷ 50 ∷ 10 ∷ 99 ∷ 111 ∷ 100 ∷ 101 ∷ 61 ∷ 51 ∷ 10 ∷ 111 ∷ 112 ∷ 61 ∷ 115 ∷ 101 ∷ 116 ∷ 44 ∷ 48 ∷ 44 ∷ 112 ∷ 50 ∷ 10 ∷ 111 ∷ 112 ∷ 61 ∷ 115 ∷ 101 ∷ 116 ∷ 44 ∷ 49 ∷ 44 ∷ 105 ∷ 49 ∷ 50 ∷ 10 ∷ 111 ∷ 112 ∷ 61 ∷ 115 ∷ 101 ∷ 110 ∷ 100 ∷ 44 ∷ 48 ∷ 44 ∷ 49 ∷ 10 ∷ 99 ∷ 111 ∷ 100 ∷ 101 ∷ 61 ∷ 50 ∷ 10 ∷ 111 ∷ 112 ∷ 61 ∷ 114 ∷ 101 ∷ 99 ∷ 118 ∷ 44 ∷ 49 ∷ 10 ∷ 111 ∷ 112 ∷ 61 ∷ 99 ∷ 108 ∷ 97 ∷ 117 ∷ 115 ∷ 101 ∷ 44 ∷ 105 ∷ 110 ∷ 116 ∷ 44 ∷ 48 ∷ 44 ∷ 49 ∷ 44 ∷ 50 ∷ 10 ∷ 115 ∷ 116 ∷ 97 ∷ 114 ∷ 116 ∷ 115 ∷ 61 ∷ 50 ∷ 10 ∷ 115 ∷ 116 ∷ 97 ∷ 114 ∷ 116 ∷ 61 ∷ 49 ∷ 44 ∷ 49 ∷ 10 ∷ 115 ∷ 116 ∷ 97 ∷ 114 ∷ 116 ∷ 61 ∷ 50 ∷ 44 ∷ 50 ∷ 10 ∷ []) ≡ record { number = 0; line = 0; node = nodeOf samplePlan }
-unfolding opWith startWith samplePlan loadOf refusedLoad checked planLines codeLines startLines headerLine countLine opLine startLine risenStart startOf behavioursOf code nodeOf misplaced misplacedFrom misplacedIn onLine times endOf worse codedOf opOf operandsOf withOperand operandOf clauseKind instruction operand wellPlaced hasClauses targetsFree kindsOf indexOf linesOf lastApart lineThen split inFront fieldsOf equal startsWith numberOf numberForm unsignedForm unsigned negative isDigit numberValue decimal rangedOf valueOf byLetter intOf plusOf minusOf
+unfolding opWith startWith samplePlan loadOf refusedLoad checked planLines codeLines startLines headerTold headerLine countTold countLine opTold opLine startTold startLine risen startOf behavioursOf code nodeOf misplaced misplacedFrom misplacedIn onLine times endOf worse codedOf opOf operandsOf withOperand operandOf clauseKind instruction operand wellPlaced hasClauses targetsFree kindsOf indexOf linesOf lastApart lineThen split inFront fieldsOf equal startsWith numberOf numberForm unsignedForm unsigned negative isDigit numberValue decimal rangedOf valueOf byLetter intOf plusOf minusOf
 sample = refl
 
 -- the number and the line of each
@@ -66,5 +69,5 @@ refusals : map tells (
     ∷ (112 ∷ 108 ∷ 97 ∷ 110 ∷ 61 ∷ 49 ∷ 10 ∷ 98 ∷ 101 ∷ 104 ∷ 97 ∷ 118 ∷ 105 ∷ 111 ∷ 117 ∷ 114 ∷ 115 ∷ 61 ∷ 49 ∷ 10 ∷ 99 ∷ 111 ∷ 100 ∷ 101 ∷ 61 ∷ 50 ∷ 10 ∷ 111 ∷ 112 ∷ 61 ∷ 99 ∷ 108 ∷ 97 ∷ 117 ∷ 115 ∷ 101 ∷ 44 ∷ 97 ∷ 110 ∷ 121 ∷ 44 ∷ 48 ∷ 44 ∷ 48 ∷ 44 ∷ 48 ∷ 10 ∷ 111 ∷ 112 ∷ 61 ∷ 115 ∷ 116 ∷ 111 ∷ 112 ∷ 44 ∷ 52 ∷ 10 ∷ 115 ∷ 116 ∷ 97 ∷ 114 ∷ 116 ∷ 115 ∷ 61 ∷ 49 ∷ 10 ∷ 115 ∷ 116 ∷ 97 ∷ 114 ∷ 116 ∷ 61 ∷ 49 ∷ 44 ∷ 49 ∷ 10 ∷ [])  -- a stray clause, and a later line with 12
     ∷ [])
     ≡ (11 ∷ 1 ∷ []) ∷ (11 ∷ 1 ∷ []) ∷ (11 ∷ 2 ∷ []) ∷ (11 ∷ 12 ∷ []) ∷ (11 ∷ 13 ∷ []) ∷ (12 ∷ 2 ∷ []) ∷ (11 ∷ 4 ∷ []) ∷ (12 ∷ 4 ∷ []) ∷ (11 ∷ 4 ∷ []) ∷ (12 ∷ 4 ∷ []) ∷ (0 ∷ 0 ∷ []) ∷ (13 ∷ 7 ∷ []) ∷ (12 ∷ 7 ∷ []) ∷ (14 ∷ 5 ∷ []) ∷ (14 ∷ 5 ∷ []) ∷ (14 ∷ 5 ∷ []) ∷ (12 ∷ 5 ∷ []) ∷ []
-unfolding tells loadOf refusedLoad checked planLines codeLines startLines headerLine countLine opLine startLine risenStart startOf behavioursOf code nodeOf misplaced misplacedFrom misplacedIn onLine times endOf worse codedOf opOf operandsOf withOperand operandOf clauseKind instruction operand wellPlaced hasClauses targetsFree kindsOf indexOf linesOf lastApart lineThen split inFront fieldsOf equal startsWith numberOf numberForm unsignedForm unsigned negative isDigit numberValue decimal rangedOf valueOf byLetter intOf plusOf minusOf
+unfolding tells loadOf refusedLoad checked planLines codeLines startLines headerTold headerLine countTold countLine opTold opLine startTold startLine risen startOf behavioursOf code nodeOf misplaced misplacedFrom misplacedIn onLine times endOf worse codedOf opOf operandsOf withOperand operandOf clauseKind instruction operand wellPlaced hasClauses targetsFree kindsOf indexOf linesOf lastApart lineThen split inFront fieldsOf equal startsWith numberOf numberForm unsignedForm unsigned negative isDigit numberValue decimal rangedOf valueOf byLetter intOf plusOf minusOf
 refusals = refl

@@ -1,3 +1,3 @@
 pub mod Reading
-pub mod Ops
 pub mod Plans
+pub mod Marks

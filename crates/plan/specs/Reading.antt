@@ -1,22 +1,15 @@
 -- Reading a text line by line, the first bad line told (document 01, "The three hands").
---   worse j k        the number told of two refusals on a line: 11 before 12
 --   Left             what is left of a text: its lines, and the number of the first of them
 --   Read A           what is read: a refusal with its line, or a result and what is left
 --   onLine f l       one line, read by f; a missing line, and one without byte 10, is 11
 --   thenOn r f       f on what is left behind r
 --   times n f a l    f n times, each on what the one before left
 --   endOf a l        the result a, where nothing is left; a surplus line is 11
-use mathlib.Core.Bool.{cond}
 use mathlib.Core.List.{List, [], _∷_}
 use Prim.Native.Nat.{ℕ, zero, suc, _+_}
-use lib.Dec.{eqb}
 use Rattle.rules.specs.Answers.{Answer, refused, done}
 use Rattle.text.specs.Numbers.{malformed}
 use Rattle.text.specs.Parts.{Lines}
-
--- "on a line 11, 12, 13 in that order"
-unfoldable pub worse : ℕ → ℕ → ℕ
-worse j k = cond (eqb j 0) k (cond (eqb k malformed) malformed j)
 
 pub record Left : Type 0 where
   pub text : Lines

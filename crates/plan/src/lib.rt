@@ -2,19 +2,26 @@
 use node::BehaviourNumber;
 use node::Node;
 use node::Op;
+use node::Process;
 use node::ProcessNumber;
 use node::Value;
+use plan_line::Start;
 use text::MALFORMED;
-use text::Parsed;
-use text::Ranged;
+ghost use mathlib.Core.List.{[]};
 ghost use mathlib.Core.Path.{_≡_};
-ghost use Prim.Native.Nat.{_<_};
-ghost use lib.ListN.{length, getD, drop};
-ghost use Rattle.node.specs.Ops.{operandCounts, kindsOf};
-ghost use Rattle.text.specs.Parts.{fieldsOf};
-ghost use Rattle.plan.specs.Ops.{numeric, exact, clauseKind, lowest, highest, operandOf, withValue, withOperand, joined, operandsOf, bare, noCode, codedOf};
-ghost use Rattle.plan.specs.Plans.{header, behindKey, headerLine, answered, number, countLine, op, opLine, startOf, noStart, start, risenStart, startLine};
-ghost use Rattle.plan.specs.Reading.{worse};
+ghost use Prim.Native.Nat.{_≤_, _<_};
+ghost use lib.ListN.{length};
+ghost use Rattle.text.specs.Parts.{linesOf};
+ghost use Rattle.plan_line.specs.Lines.{headerLine, countLine, opLine, startLine};
+ghost use Rattle.plan.specs.Plans.{more, emptyNode, nodeOf, planLines, refusedLoad, loadOf, codeLines, startMore, startLines, withOps, withCode, withStart, withEach};
+ghost use Rattle.plan.specs.Marks.{leftAt, mapped, endMark, stopped, behind, Within, Reached};
+ghost use Rattle.plan.specs.Reading.{onLine, times};
+
+// Text above 16,384 bytes.
+const TOO_LONG: u8 = 10;
+
+// A recv without its clauses, a stray clause or a target place on a clause.
+const ILL_PLACED: u8 = 14;
 
 // What a load tells: the number, 10 to 14 or 0; the line, from 1, or 0; and the node, which is the blank one with a refusal.
 pub struct Loaded {
@@ -23,319 +30,330 @@ pub struct Loaded {
     pub node: Node,
 }
 
-// An operand as it is read: the refusal, 11 or 12, or 0; its number; and its value, where it has one.
-pub struct Operand {
-    pub refusal: u8,
-    pub number: u8,
-    pub value: Value,
+// How far a text is read: a refusal, or 0; the number of the next line, or of the refused one; and where that line begins.
+struct Mark {
+    refusal: u8,
+    line: usize,
+    at: usize,
 }
 
-// An op as it is read: the refusal, 11 or 12, or 0, and the op with the operands that were read.
-pub struct Coded {
-    pub refusal: u8,
-    pub op: Op,
+// What lines gave, and the mark behind them.
+struct CountAt {
+    mark: Mark,
+    number: u8,
 }
 
-// A start as it is read: the refusal, 11 or 12, or 0, and its numbers.
-pub struct Start {
-    pub refusal: u8,
-    pub process: u8,
-    pub behaviour: u8,
+struct OpAt {
+    mark: Mark,
+    op: Op,
 }
 
-// Start numbers that do not rise.
-const NOT_RISING: u8 = 13;
+struct StartAt {
+    mark: Mark,
+    start: Start,
+}
 
-// The line `plan=1`: 11 or 0.
-fn header_line(line: &[u8]) -> u8
-    ensures { λ r. ⌜ answered r 1 ≡ headerLine (now (line .entry)) ⌝ }
+struct Placed {
+    mark: Mark,
+    node: Node,
+}
+
+// The node of a plan text, or a refusal with its line.
+pub fn load(text: &[u8]) -> Loaded
+    ensures { λ r. ⌜ r ≡ loadOf (now (text .entry)) ⌝ }
 {
-    if text::same(line, b"plan=1") {
-        return 0;
+    if 16384 < text.len() {
+        return refused_load(TOO_LONG, 0);
     }
-    MALFORMED
-}
-
-// A line with a key and a number.
-fn count_line(line: &[u8], key: &[u8], low: u8, high: u8) -> Ranged
-    ensures { λ r. ⌜ number r ≡ countLine (now (key .entry)) low high (now (line .entry)) ⌝ }
-{
-    if text::starts(line, key) {
-        let k = key.len();
-        return text::read_ranged(&line[k..], low, high);
+    let x = read_plan(text);
+    let end = x.mark;
+    if end.refusal != 0 {
+        return refused_load(end.refusal, end.line);
     }
-    Ranged {
-        refusal: MALFORMED,
+    let node = x.node;
+    let lens = node.lens;
+    let ops = node.ops;
+    let line = placement::misplaced(node.count, lens, ops);
+    if line != 0 {
+        return refused_load(ILL_PLACED, line);
+    }
+    Loaded {
         number: 0,
+        line: 0,
+        node,
     }
 }
 
-// A line `op=` of a code with `len` ops, in a plan with `count` behaviours.
-fn op_line(line: &[u8], count: u8, len: u8) -> Coded
-    ensures { λ r. ⌜ op r ≡ opLine count len (now (line .entry)) ⌝ }
+// A refused load gives the blank node.
+fn refused_load(number: u8, line: usize) -> Loaded
+    ensures { λ r. ⌜ r ≡ refusedLoad number line ⌝ }
 {
-    if text::starts(line, b"op=") {
-        return read_op(&line[3..], count, len);
-    }
-    no_code()
-}
-
-// A line `start=` behind a start of process `last`.
-fn start_line(line: &[u8], count: u8, last: u8) -> Start
-    ensures { λ r. ⌜ start r ≡ startLine count last (now (line .entry)) ⌝ }
-{
-    if text::starts(line, b"start=") {
-        return rising(read_start(&line[6..], count), last);
-    }
-    no_start(MALFORMED)
-}
-
-// The number told of two refusals on a line: 11 before 12.
-fn worse(j: u8, k: u8) -> u8
-    ensures { λ r. ⌜ r ≡ worse j k ⌝ }
-{
-    if j == 0 {
-        return k;
-    }
-    if k == MALFORMED {
-        return MALFORMED;
-    }
-    j
-}
-
-// What follows `op=`: a word and its operands.
-fn read_op(rest: &[u8], count: u8, len: u8) -> Coded
-    ensures { λ r. ⌜ r ≡ codedOf count len (fieldsOf (now (rest .entry))) ⌝ }
-{
-    let words =
-        b"set,copy,self,add,send,exit,link,unlink,trap,spawn,recv,clause,jump,same,less,stop";
-    let k = text::word_index(words, text::field(rest, 0));
-    if k < 16 {
-        let number = k as u8;
-        if text::count_fields(rest) == (node::operand_count(number) as usize) + 1 {
-            return operands(rest, number, count, len);
-        }
-        return no_code();
-    }
-    no_code()
-}
-
-fn no_code() -> Coded
-    ensures { λ r. ⌜ r ≡ noCode ⌝ }
-{
-    Coded {
-        refusal: MALFORMED,
-        op: Op::blank(),
-    }
-}
-
-fn bare_op(number: u8) -> Coded
-    ensures { λ r. ⌜ r ≡ bare number ⌝ }
-{
-    let op = Op {
+    Loaded {
         number,
-        r: 0,
-        s: 0,
-        target: 0,
-        small: 0,
-        value: Value::ZERO,
-        process: ProcessNumber(0),
-        behaviour: BehaviourNumber(0),
-    };
-    Coded { refusal: 0, op }
+        line,
+        node: Node::blank(),
+    }
 }
 
-// The operands of op `number`, each read by its kind.
-fn operands(rest: &[u8], number: u8, count: u8, len: u8) -> Coded
-    requires { ⌜ (number < 16) × (length (drop 1 (fieldsOf (now rest))) ≡ getD operandCounts number 0) ⌝ }
-    ensures { λ r. ⌜ r ≡ operandsOf count len (bare number) (kindsOf number) (drop 1 (fieldsOf (now (rest .entry)))) ⌝ }
+// The lines of a plan, and the node that they make.
+fn read_plan(text: &[u8]) -> Placed
+    requires { ⌜ length (now text) ≤ 16384 ⌝ }
+    ensures { λ r. ⌜ Reached (now (text .entry)) (r .mark) (r .node) (mapped nodeOf (planLines (record { text = linesOf (now (text .entry)); first = 1 }))) ⌝ }
 {
-    let n = node::operand_count(number);
-    let mut coded = bare_op(number);
+    let node = empty_node();
+    let first = Mark {
+        refusal: 0,
+        line: 1,
+        at: 0,
+    };
+    let header = header_at(text, first);
+    if header.refusal != 0 {
+        return Placed { mark: header, node };
+    }
+    let x = count_at(text, header, b"behaviours=", 1, 8);
+    let mark = x.mark;
+    if mark.refusal != 0 {
+        return Placed { mark, node };
+    }
+    let codes = read_codes(text, mark, node, x.number);
+    let behind = codes.mark;
+    if behind.refusal != 0 {
+        return Placed { mark: behind, node };
+    }
+    let coded = codes.node;
+    let starts = read_starts(text, behind, coded, x.number);
+    let started = starts.node;
+    Placed {
+        mark: read_end(text, starts.mark),
+        node: started,
+    }
+}
+
+// The end of a text: a surplus line, whole or not, is 11.
+fn read_end(text: &[u8], m: Mark) -> Mark
+    ensures { λ r. ⌜ r ≡ endMark (now (text .entry)) m ⌝ }
+{
+    if m.refusal != 0 {
+        return m;
+    }
+    if m.at < text.len() {
+        return stopped_at(m, MALFORMED);
+    }
+    m
+}
+
+// A node without behaviours and processes.
+fn empty_node() -> Node
+    ensures { λ r. ⌜ r ≡ emptyNode ⌝ }
+{
+    let mut n = Node::blank();
+    n.count = 0;
+    n.lens[0] = 0;
+    n
+}
+
+// The line at m, which has to be `plan=1`; a line that is missing or lacks its byte 10 is 11, here and below.
+fn header_at(text: &[u8], m: Mark) -> Mark
+    requires { ⌜ Within (now text) m ⌝ }
+    ensures { λ r. ⌜ Reached (now (text .entry)) r 1 (onLine headerLine (leftAt (now (text .entry)) m)) ⌝ }
+{
+    let at = m.at;
+    let e = text::find(text, at, b'\n');
+    if text.len() <= e {
+        return stopped_at(m, MALFORMED);
+    }
+    behind_line(m, e, plan_line::header_line(&text[at..e]))
+}
+
+// The line at m, with a key and a number from low to high.
+fn count_at(text: &[u8], m: Mark, key: &[u8], low: u8, high: u8) -> CountAt
+    requires { ⌜ Within (now text) m ⌝ }
+    ensures { λ r. ⌜ (Reached (now (text .entry)) (r .mark) (r .number) (onLine (countLine (now (key .entry)) low high) (leftAt (now (text .entry)) m))) × (r .number ≤ high) ⌝ }
+{
+    let at = m.at;
+    let e = text::find(text, at, b'\n');
+    if text.len() <= e {
+        return CountAt {
+            mark: stopped_at(m, MALFORMED),
+            number: 0,
+        };
+    }
+    let x = plan_line::count_line(&text[at..e], key, low, high);
+    CountAt {
+        mark: behind_line(m, e, x.refusal),
+        number: x.number,
+    }
+}
+
+// The line at m, with an op of a code with `len` ops.
+fn op_at(text: &[u8], m: Mark, count: u8, len: u8) -> OpAt
+    requires { ⌜ Within (now text) m ⌝ }
+    ensures { λ r. ⌜ Reached (now (text .entry)) (r .mark) (r .op) (onLine (opLine count len) (leftAt (now (text .entry)) m)) ⌝ }
+{
+    let at = m.at;
+    let e = text::find(text, at, b'\n');
+    if text.len() <= e {
+        return OpAt {
+            mark: stopped_at(m, MALFORMED),
+            op: Op::blank(),
+        };
+    }
+    let x = plan_line::op_line(&text[at..e], count, len);
+    let op = x.op;
+    OpAt {
+        mark: behind_line(m, e, x.refusal),
+        op,
+    }
+}
+
+// The line at m, with a start behind a start of process `last`.
+fn start_at(text: &[u8], m: Mark, count: u8, last: u8) -> StartAt
+    requires { ⌜ Within (now text) m ⌝ }
+    ensures { λ r. ⌜ (Reached (now (text .entry)) (r .mark) (r .start) (onLine (startLine count last) (leftAt (now (text .entry)) m))) × (r .start .process ≤ 16) ⌝ }
+{
+    let at = m.at;
+    let e = text::find(text, at, b'\n');
+    if text.len() <= e {
+        return StartAt {
+            mark: stopped_at(m, MALFORMED),
+            start: Start {
+                refusal: MALFORMED,
+                process: 0,
+                behaviour: 0,
+            },
+        };
+    }
+    let x = plan_line::start_line(&text[at..e], count, last);
+    StartAt {
+        mark: behind_line(m, e, x.refusal),
+        start: x,
+    }
+}
+
+// The mark of a refused line.
+fn stopped_at(m: Mark, refusal: u8) -> Mark
+    ensures { λ r. ⌜ r ≡ stopped m refusal ⌝ }
+{
+    Mark {
+        refusal,
+        line: m.line,
+        at: m.at,
+    }
+}
+
+// The mark behind the line of m, which ends at e.
+fn behind_line(m: Mark, e: usize, refusal: u8) -> Mark
+    requires { ⌜ (m .line < 65536) × (e < 65536) ⌝ }
+    ensures { λ r. ⌜ r ≡ behind m e refusal ⌝ }
+{
+    if refusal != 0 {
+        return stopped_at(m, refusal);
+    }
+    Mark {
+        refusal: 0,
+        line: m.line + 1,
+        at: e + 1,
+    }
+}
+
+// The ops of a behaviour with `len` ops, behind the others. Each is stored where it stays: a node is too large to be handed on with
+// each op.
+fn read_ops(text: &[u8], m: Mark, node: Node, count: u8, len: u8) -> Placed
+    requires { ⌜ (Within (now text) m) × (m .refusal ≡ 0) × (node .count < 8) × (len ≤ 32) ⌝ }
+    ensures { λ r. ⌜ Reached (now (text .entry)) (r .mark) (r .node) (mapped (withOps node) (times len (more (onLine (opLine count len))) [] (leftAt (now (text .entry)) m))) ⌝ }
+{
+    let b = node.count as usize;
+    let mut mark = m;
+    let mut n = node;
+    n.lens[b] = 0;
     let mut i: u8 = 0;
-    while i < n {
-        let kind = node::operand_kind(number, i);
-        let field = text::field(rest, (i as usize) + 1);
-        coded = with_joined(coded, kind, read_operand(field, kind, count, len));
+    while i < len {
+        let x = op_at(text, mark, count, len);
+        let op = x.op;
+        mark = x.mark;
+        if mark.refusal != 0 {
+            return Placed { mark, node };
+        }
+        let at = b * 32 + (i as usize);
+        i += 1;
+        n.lens[b] = i;
+        n.ops[at] = op;
+    }
+    Placed { mark, node: n }
+}
+
+// A behaviour, behind the others.
+fn read_code(text: &[u8], m: Mark, node: Node, count: u8) -> Placed
+    requires { ⌜ (Within (now text) m) × (m .refusal ≡ 0) × (node .count < 8) ⌝ }
+    ensures { λ r. ⌜ Reached (now (text .entry)) (r .mark) (r .node) (mapped (withCode node) (codeLines count (leftAt (now (text .entry)) m))) ⌝ }
+{
+    let x = count_at(text, m, b"code=", 1, 32);
+    let mark = x.mark;
+    if mark.refusal != 0 {
+        return Placed { mark, node };
+    }
+    let b = node.count;
+    let y = read_ops(text, mark, node, count, x.number);
+    let mut n = y.node;
+    n.count = b + 1;
+    let end = y.mark;
+    Placed { mark: end, node: n }
+}
+
+// The behaviours of a plan.
+fn read_codes(text: &[u8], m: Mark, node: Node, count: u8) -> Placed
+    requires { ⌜ (Within (now text) m) × (m .refusal ≡ 0) × (node .count ≡ 0) × (count ≤ 8) ⌝ }
+    ensures { λ r. ⌜ Reached (now (text .entry)) (r .mark) (r .node) (mapped (withEach withCode node) (times count (more (codeLines count)) [] (leftAt (now (text .entry)) m))) ⌝ }
+{
+    let mut mark = m;
+    let mut n = node;
+    let mut i: u8 = 0;
+    while i < count {
+        let x = read_code(text, mark, n, count);
+        mark = x.mark;
+        if mark.refusal != 0 {
+            return Placed { mark, node };
+        }
+        n = x.node;
         i += 1;
     }
-    coded
+    Placed { mark, node: n }
 }
 
-// One operand more.
-fn with_joined(coded: Coded, kind: u8, x: Operand) -> Coded
-    ensures { λ r. ⌜ r ≡ joined coded kind x ⌝ }
+// The starts of a plan.
+fn read_starts(text: &[u8], m: Mark, node: Node, count: u8) -> Placed
+    requires { ⌜ (Within (now text) m) × (m .refusal ≡ 0) ⌝ }
+    ensures { λ r. ⌜ Reached (now (text .entry)) (r .mark) (r .node) (mapped (withEach withStart node) (startLines count (leftAt (now (text .entry)) m))) ⌝ }
 {
-    let op = coded.op;
-    Coded {
-        refusal: worse(coded.refusal, x.refusal),
-        op: with_operand(op, kind, x),
+    let x = count_at(text, m, b"starts=", 1, 16);
+    let mark = x.mark;
+    if mark.refusal != 0 {
+        return Placed { mark, node };
     }
+    start_each(text, mark, node, count, x.number)
 }
 
-// An op with an operand of a kind.
-fn with_operand(op: Op, kind: u8, x: Operand) -> Op
-    ensures { λ r. ⌜ r ≡ withOperand op kind x ⌝ }
+// As many starts as `len` says.
+fn start_each(text: &[u8], m: Mark, node: Node, count: u8, len: u8) -> Placed
+    requires { ⌜ (Within (now text) m) × (m .refusal ≡ 0) ⌝ }
+    ensures { λ r. ⌜ Reached (now (text .entry)) (r .mark) (r .node) (mapped (withEach withStart node) (times len (startMore count) [] (leftAt (now (text .entry)) m))) ⌝ }
 {
-    let mut o = op;
-    let v = x.value;
-    match kind {
-        1 => {
-            o.r = x.number;
-            o
+    let mut mark = m;
+    let mut n = node;
+    let mut last: u8 = 0;
+    let mut i: u8 = 0;
+    while i < len {
+        let x = start_at(text, mark, count, last);
+        mark = x.mark;
+        if mark.refusal != 0 {
+            return Placed { mark, node };
         }
-        2 => {
-            o.s = x.number;
-            o
-        }
-        3 => with_value(o, o.small, v),
-        4 => {
-            o.target = x.number;
-            o
-        }
-        5 => {
-            let b = BehaviourNumber(x.number);
-            o.behaviour = b;
-            o
-        }
-        6 => {
-            let q = ProcessNumber(x.number);
-            o.process = q;
-            o
-        }
-        7 => {
-            o.small = x.number;
-            o
-        }
-        8 => {
-            o.small = x.number;
-            o
-        }
-        9 => with_value(o, x.number, v),
-        _ => o,
+        let s = x.start;
+        last = s.process;
+        let k = ProcessNumber(s.process).index();
+        let p = Process::fresh(BehaviourNumber(s.behaviour), Value::ZERO);
+        n.processes[k] = p;
+        i += 1;
     }
-}
-
-// An op with its small number and its value anew.
-fn with_value(op: Op, small: u8, value: Value) -> Op
-    ensures { λ o. ⌜ o ≡ withValue op small value ⌝ }
-{
-    let process = op.process;
-    let behaviour = op.behaviour;
-    Op {
-        number: op.number,
-        r: op.r,
-        s: op.s,
-        target: op.target,
-        small,
-        value,
-        process,
-        behaviour,
-    }
-}
-
-// An operand of a kind.
-fn read_operand(s: &[u8], kind: u8, count: u8, len: u8) -> Operand
-    ensures { λ r. ⌜ r ≡ operandOf count len kind (now (s .entry)) ⌝ }
-{
-    if kind == 3 {
-        return exact_value(text::read_value(s));
-    }
-    if kind == 9 {
-        return clause_kind(s);
-    }
-    let x = text::read_ranged(s, low_of(kind), high_of(kind, count, len));
-    Operand {
-        refusal: x.refusal,
-        number: x.number,
-        value: Value::ZERO,
-    }
-}
-
-// A clause's kind: a word, or one exact value.
-fn clause_kind(s: &[u8]) -> Operand
-    ensures { λ r. ⌜ r ≡ clauseKind (now (s .entry)) ⌝ }
-{
-    let k = text::word_index(b"any,int,atom,pid,note", s);
-    if k < 5 {
-        return Operand {
-            refusal: 0,
-            number: k as u8,
-            value: Value::ZERO,
-        };
-    }
-    exact_value(text::read_value(s))
-}
-
-fn exact_value(x: Parsed) -> Operand
-    ensures { λ r. ⌜ r ≡ exact x ⌝ }
-{
-    let value = x.value;
-    Operand {
-        refusal: x.refusal,
-        number: 5,
-        value,
-    }
-}
-
-// The range of a number, by the operand's kind.
-fn low_of(kind: u8) -> u8
-    ensures { λ r. ⌜ r ≡ getD lowest kind 0 ⌝ }
-{
-    if kind < 9 {
-        let low = [0u8, 0, 0, 0, 0, 1, 1, 0, 1];
-        let k = kind as usize;
-        return low[k];
-    }
-    0
-}
-
-fn high_of(kind: u8, count: u8, len: u8) -> u8
-    ensures { λ r. ⌜ r ≡ getD (highest count len) kind 0 ⌝ }
-{
-    if kind < 9 {
-        let high = [0u8, 3, 3, 0, len, count, 16, 1, 8];
-        let k = kind as usize;
-        return high[k];
-    }
-    0
-}
-
-// What follows `start=`: a process and a behaviour.
-fn read_start(rest: &[u8], count: u8) -> Start
-    ensures { λ r. ⌜ r ≡ startOf count (fieldsOf (now (rest .entry))) ⌝ }
-{
-    if text::count_fields(rest) == 2 {
-        let i = text::read_ranged(text::field(rest, 0), 1, 16);
-        let b = text::read_ranged(text::field(rest, 1), 1, count);
-        return Start {
-            refusal: worse(i.refusal, b.refusal),
-            process: i.number,
-            behaviour: b.number,
-        };
-    }
-    no_start(MALFORMED)
-}
-
-fn no_start(refusal: u8) -> Start
-    ensures { λ r. ⌜ r ≡ noStart refusal ⌝ }
-{
-    Start {
-        refusal,
-        process: 0,
-        behaviour: 0,
-    }
-}
-
-// 13, where its process is not above the last.
-fn rising(s: Start, last: u8) -> Start
-    ensures { λ r. ⌜ start r ≡ risenStart last s ⌝ }
-{
-    if s.refusal != 0 {
-        return s;
-    }
-    if last < s.process {
-        return s;
-    }
-    no_start(NOT_RISING)
+    Placed { mark, node: n }
 }

@@ -290,6 +290,28 @@ module _ (c : ℕ) (code : List Instruction) (h : So (codeSound c code)) where
   next-off : (t : ℕ) → t < length code → isRecv (getD code t noInstruction) ≡ false → isClause (getD code t noInstruction) ≡ false → So (not (onClause code (suc t)))
   next-off t g a b = none-due-off (suc t) (rw (take-suc code t noInstruction g, due-behind 0 (take t code) (getD code t noInstruction), a, b))
 
+-- ---- a process that begins
+
+-- it stands at place 0, which no clause is on: none is due there
+module _ (codes : List (List Instruction)) (sounds : So (allOf (codeSound (length codes)) codes)) (i : ℕ) (b : BehaviourNumber) (v : Value) (m : Mailbox) where
+  fresh-alive : So (leb 1 (b .0) && leb (b .0) (length codes)) → So (valueSound v) → Alive codes i (fresh b v) (emptied m)
+  unfolding fitsInt
+  fresh-alive known h =
+      let w = parts (leb 1 (b .0)) (leb (b .0) (length codes)) known in
+      let x = leb-true 1 (b .0) (w .0) in
+      let y = leb-true (b .0) (length codes) (w .1) in
+      let sound = allOf-at (codeSound (length codes)) [] codes sounds (b .0 - 1) (omega arith) in
+      record {
+        stage = refl;
+        placed = record { known = known; within = le-leb 0 (length (codeOf codes (b .0))) (omega arith); off = none-due-off (length codes) (codeOf codes (b .0)) sound 0 refl };
+        valued = record { v0 = h; v1 = refl; v2 = refl; v3 = refl };
+        apart = no-links i b v;
+        mailed = emptied-mailed m;
+      }
+
+  pub fresh-sound : So (leb 1 (b .0) && leb (b .0) (length codes)) → So (valueSound v) → So (standingSound codes i (standing (fresh b v) (emptied m)))
+  fresh-sound known h = alive-sound codes i (fresh b v) (emptied m) (fresh-alive known h)
+
 -- ---- changes of a live process
 
 -- an answer that refuses keeps everything; one that accepts has an effect that does
@@ -531,27 +553,19 @@ module _ (codes : List (List Instruction)) (i : ℕ) (number : So (isNumber i)) 
   unfolding trapped
   traps-good r f = becomes-alive codes i st _ (advanced-alive r (trapped p f) (trapped-alive codes i p (st .mail) a f) refl refl)
 
-  -- a spawned process begins at place 0, which no clause is on: none is due there
   spawns-good : here .number ≡ 9 → OK (spawns i st here)
-  unfolding kindsOf operand operandInRange linkSet linksTo fitsInt
+  unfolding kindsOf operand operandInRange linkSet linksTo
   spawns-good e =
       let q = here .process .0 in
       let b = here .behaviour .0 in
       let n : So (isNumber q) = in-range (length codes) ops checked t inside 9 2 e (omega arith) in
       let known : So (leb 1 b && leb b (length codes)) = in-range (length codes) ops checked t inside 9 1 e (omega arith) in
-      let child : (m : Mailbox) → Alive codes q (fresh (here .behaviour) (pid i)) (emptied m) = λ m. record {
-        stage = refl;
-        placed = record { known = known; within = le-leb 0 (length (codeOf codes b)) (omega arith); off = none-due-off (length codes) (codeOf codes b) (code-sound b known) 0 refl };
-        valued = record { v0 = number; v1 = refl; v2 = refl; v3 = refl };
-        apart = no-links q (here .behaviour) (pid i);
-        mailed = emptied-mailed m;
-      } in
       let next = withRegister-keeps p (a .valued) (λ q. Alive codes i (advanced q) (st .mail)) (λ b c d f w. advanced-alive (other-op 9 e refl) (withRegisters p b c d f) (registers-alive codes i p (st .mail) a b c d f w) refl refl) (here .r) (Pid (here .process)) n in
       record {
         sound = alive-sound codes i _ (st .mail) next;
         born = live-born codes i _ (st .mail) next;
         sent = tt;
-        birth = record { number = n; sound = λ m. alive-sound codes q _ (emptied m) (child m); born = refl };
+        birth = record { number = n; sound = λ m. fresh-sound codes sounds q (here .behaviour) (pid i) m known number; born = refl };
         apart = tt;
       }
 

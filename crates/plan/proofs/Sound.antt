@@ -1,0 +1,195 @@
+-- What a load gives is a sound node, whatever text it is given. Assumes nothing.
+--   blank-sound   the blank node, which a refused load gives
+--   plan-sound    the node of a plan that keeps its limits and that no line is told of
+--   loaded-sound  the node of every load
+--   refused-blank a refused load gives the blank node
+use mathlib.Core.Bool.{Bool, true, false, So, _&&_, cond}
+use mathlib.Core.List.{List, [], _∷_, map}
+use mathlib.Core.Path.{_≡_, refl, sym, ap, subst, _∙_}
+use Prim.Native.Nat.{ℕ, _-_}
+use native.Mathlib.Decide.{ℕ-discrete}
+use native.Mathlib.Omega.{arith}
+use borrow.Author.Tests.{le-leb, eqb-true}
+use lib.Dec.{eqb, leb, ltb}
+use lib.ListN.{length, getD, set, replicate, length-map, getD-replicate}
+use lib.Seq.{getD-set-other}
+use Rattle.node.specs.declared.Mailbox.{Mailbox}
+use Rattle.node.specs.declared.Node.{Node}
+use Rattle.node.specs.declared.Op.{Op}
+use Rattle.node.specs.declared.Process.{Process}
+use Rattle.node.specs.declared.Row.{Row}
+use Rattle.node.specs.Lists.{allFrom, allOf}
+use Rattle.node.specs.Mailboxes.{emptied, emptyMailbox}
+use Rattle.node.specs.Ops.{kindsOf}
+use Rattle.node.specs.Nodes.{blankNode, noProcess, noMailbox, noRow, pair}
+use Rattle.node.specs.Processes.{fresh, unborn}
+use Rattle.node.specs.Rows.{emptyRow, signals}
+use Rattle.node.specs.Values.{intZero}
+use Rattle.node.proofs.Lists.{allFrom-both, allOf-from}
+use Rattle.rules.specs.Behaviours.{Instruction, codeSound, hasClauses, inRange, instruction, operand, operandInRange, targetsFree, wellPlaced}
+use Rattle.rules.specs.Nodes.{Sound, behavioursOf, code, mailbox, process, rowSound, standing, standingSound}
+use Rattle.rules.specs.Values.{fitsInt, isNumber}
+use Rattle.rules.proofs.All.{both, parts, allOf-map}
+use Rattle.rules.proofs.Firsts.{set-read}
+use Rattle.rules.proofs.Keep.{fresh-sound}
+use Rattle.rules.proofs.Kept.{of-parts}
+use Rattle.rules.proofs.Records.{number-bounds}
+use Rattle.text.specs.Parts.{linesOf}
+use Rattle.placement.specs.Misplaced.{firstCode}
+use Rattle.placement.proofs.Placed.{misplaced-none}
+use Rattle.plan_line.specs.declared.Start.{Start}
+use Rattle.plan.specs.declared.Loaded.{Loaded}
+use Rattle.plan.specs.Plans.{Plan, tooLong, illPlaced, emptyNode, withCode, withStart, withEach, nodeOf, misplaced, refusedLoad, checked, loadedFrom, planLines, loadOf}
+use Rattle.plan.specs.Reading.{Left, Read, bad, good}
+use Rattle.plan.proofs.Behaviours.{behaviours-of}
+use Rattle.plan.proofs.Kept.{codeKept, startKept, PlanKept, plan-kept}
+
+-- ---- nothing in flight, no mail
+
+rows-empty : (j i : ℕ) → So (isNumber j) → So (isNumber i) → So (rowSound j i (signals (getD (replicate 256 emptyRow) (pair j i) noRow)))
+unfolding rowSound signals
+rows-empty j i h g =
+    let x = number-bounds j h in
+    let y = number-bounds i g in
+    rw (getD-replicate 256 (pair j i) emptyRow noRow (omega arith))
+
+module _ (codes : List (List Instruction)) where
+  abbrev Stand : ℕ → Process → Type 0
+  Stand i p = So (standingSound codes i (standing p emptyMailbox))
+
+  unborn-stands : (i : ℕ) → Stand i unborn
+  unfolding standing
+  unborn-stands i = refl
+
+  none-stands : (i : ℕ) → Stand i noProcess
+  unfolding standing
+  none-stands i = refl
+
+  -- every process, in an array of all
+  abbrev Stands : List Process → Type 0
+  Stands ps = (i : ℕ) → So (isNumber i) → Stand i (getD ps (i - 1) noProcess)
+
+  all-unborn : Stands (replicate 16 unborn)
+  all-unborn i h = let x = number-bounds i h in rw (getD-replicate 16 (i - 1) unborn noProcess (omega arith)) (unborn-stands i)
+
+  one-more : (ps : List Process) (k : ℕ) (p : Process) → Stands ps → ((i : ℕ) → Stand i p) → Stands (set ps k p)
+  one-more ps k p all h i n = go (ℕ-discrete (i - 1) k)
+    where
+      go : Dec (i - 1 ≡ k) → Stand i (getD (set ps k p) (i - 1) noProcess)
+      go (yes e) = rw e (set-read (Stand i) noProcess ps k p (none-stands i) (h i))
+      go (no d) = rw (getD-set-other ps k (i - 1) p noProcess d) (all i n)
+
+  started-stands : So (allOf (codeSound (length codes)) codes) → (s : Start) → So (startKept (length codes) s) → (i : ℕ) → Stand i (fresh (record { 0 = s .behaviour }) intZero)
+  unfolding emptied fitsInt
+  started-stands sounds s h i = fresh-sound codes sounds i (record { 0 = s .behaviour }) intZero emptyMailbox (parts (isNumber (s .process)) _ h .1) refl
+
+  starts-stand : So (allOf (codeSound (length codes)) codes) → (n : Node) (starts : List Start) → So (allOf (startKept (length codes)) starts) → Stands (n .processes) → Stands (withEach withStart n starts .processes)
+  starts-stand sounds n [] h all = all
+  starts-stand sounds n (s ∷ starts) h all =
+      let w = parts (startKept (length codes) s) (allOf (startKept (length codes)) starts) h in
+      starts-stand sounds (withStart n s) starts (w .1) (one-more (n .processes) (s .process - 1) (fresh (record { 0 = s .behaviour }) intZero) all (started-stands sounds s (w .0)))
+
+-- ---- a node without mail and signals
+
+module _ (n : Node) (mail : n .mail ≡ replicate 16 emptyMailbox) (flight : n .flight ≡ replicate 256 emptyRow) where
+  pub quiet-sound : So (leb 1 (length (behavioursOf n)) && leb (length (behavioursOf n)) 8) → So (allOf (codeSound (length (behavioursOf n))) (behavioursOf n)) → Stands (behavioursOf n) (n .processes) → Sound n
+  quiet-sound few codes all = of-parts n (record {
+    few = few;
+    codes = codes;
+    processes = λ i h.
+        let x = number-bounds i h in
+        let box : mailbox n i ≡ emptyMailbox = ap (λ (ms : List Mailbox). getD ms (i - 1) noMailbox) mail ∙ getD-replicate 16 (i - 1) emptyMailbox noMailbox (omega arith) in
+        subst (λ (m : Mailbox). So (standingSound (behavioursOf n) i (standing (process n i) m))) (sym box) (all i h);
+    rows = λ j i h g. subst (λ (rs : List Row). So (rowSound j i (signals (getD rs (pair j i) noRow)))) (sym flight) (rows-empty j i h g);
+  })
+
+pub blank-sound : Sound blankNode
+unfolding blankNode behavioursOf code instruction operand kindsOf codeSound inRange operandInRange wellPlaced hasClauses targetsFree
+blank-sound = quiet-sound blankNode refl refl refl refl (all-unborn (behavioursOf blankNode))
+
+-- ---- the codes of a plan
+
+code-sound-of : (c : ℕ) (code : List Op) → So (codeKept c code) → So (allFrom (wellPlaced (map instruction code)) 0 (map instruction code)) → So (codeSound c (map instruction code))
+unfolding codeSound
+code-sound-of c code h g =
+    let xs = map instruction code in
+    let test : Instruction → Bool = inRange c (length code) in
+    let w = parts (leb 1 (length code) && leb (length code) 32) (allOf (λ (o : Op). test (instruction o)) code) h in
+    let fit : So (allFrom (λ (t : ℕ) (x : Instruction). test x) 0 xs) = rw (← allOf-from test 0 xs, allOf-map test instruction code) (w .1) in
+    rw (length-map code instruction, allFrom-both (λ (t : ℕ) (x : Instruction). test x) (wellPlaced xs) 0 xs) (both (w .0) (both fit g))
+
+codes-sound : (c : ℕ) (codes : List (List Op)) → So (allOf (codeKept c) codes) → So (allOf (λ (code : List Instruction). allFrom (wellPlaced code) 0 code) (map (map instruction) codes)) → So (allOf (codeSound c) (map (map instruction) codes))
+codes-sound c [] h g = refl
+codes-sound c (code ∷ codes) h g =
+    let a = parts (codeKept c code) (allOf (codeKept c) codes) h in
+    let b = parts (allFrom (wellPlaced (map instruction code)) 0 (map instruction code)) _ g in
+    both (code-sound-of c code (a .0) (b .0)) (codes-sound c codes (a .1) (b .1))
+
+-- ---- the node of a plan
+
+-- f leaves what `get` reads
+each-keeps : {A B : Type 0} (get : Node → B) (f : Node → A → Node) → ((n : Node) (x : A) → get (f n x) ≡ get n) → (n : Node) (xs : List A) → get (withEach f n xs) ≡ get n
+each-keeps get f h n [] = refl
+each-keeps get f h n (x ∷ xs) = each-keeps get f h (f n x) xs ∙ h n x
+
+plan-keeps : {B : Type 0} (get : Node → B) → ((n : Node) (s : Start) → get (withStart n s) ≡ get n) → ((n : Node) (code : List Op) → get (withCode n code) ≡ get n) → (p : Plan) → get (nodeOf p) ≡ get emptyNode
+unfolding nodeOf
+plan-keeps get h g p = each-keeps get withStart h (withEach withCode emptyNode (p .codes)) (p .starts) ∙ each-keeps get withCode g emptyNode (p .codes)
+
+plan-stands : (p : Plan) (codes : List (List Instruction)) → So (allOf (codeSound (length codes)) codes) → So (allOf (startKept (length codes)) (p .starts)) → Stands codes (nodeOf p .processes)
+unfolding nodeOf
+plan-stands p codes sounds h =
+    let coded = withEach withCode emptyNode (p .codes) in
+    starts-stand codes sounds coded (p .starts) h (subst (Stands codes) (sym (each-keeps (λ (n : Node). n .processes) withCode (λ n code. refl) emptyNode (p .codes))) (all-unborn codes))
+
+pub plan-sound : (p : Plan) → PlanKept p → misplaced (nodeOf p) ≡ 0 → Sound (nodeOf p)
+unfolding misplaced
+plan-sound p k none =
+    let n = nodeOf p in
+    let is = behaviours-of p k in
+    let size : length (behavioursOf n) ≡ length (p .codes) = ap length is ∙ length-map (p .codes) (map instruction) in
+    let placed = subst (λ (bs : List (List Instruction)). So (allOf (λ (code : List Instruction). allFrom (wellPlaced code) 0 code) bs)) is (misplaced-none firstCode (behavioursOf n) none) in
+    let sounds : So (allOf (codeSound (length (behavioursOf n))) (behavioursOf n)) =
+    subst (λ (bs : List (List Instruction)). So (allOf (codeSound (length (behavioursOf n))) bs)) (sym is) (subst (λ (c : ℕ). So (allOf (codeSound c) (map (map instruction) (p .codes)))) (sym size) (codes-sound (length (p .codes)) (p .codes) (k .codes) placed)) in
+    quiet-sound n (plan-keeps (λ (n : Node). n .mail) (λ n s. refl) (λ n code. refl) p) (plan-keeps (λ (n : Node). n .flight) (λ n s. refl) (λ n code. refl) p)
+    (both (le-leb 1 (length (behavioursOf n)) (omega (arith, size, k .least))) (le-leb (length (behavioursOf n)) 8 (omega (arith, size, k .most))))
+    sounds
+    (plan-stands p (behavioursOf n) sounds (subst (λ (c : ℕ). So (allOf (startKept c) (p .starts))) (sym size) (k .starts)))
+
+-- ---- a load
+
+refused-sound : (k line : ℕ) → Sound (refusedLoad k line .node)
+unfolding refusedLoad
+refused-sound k line = blank-sound
+
+either : (Q : Loaded → Type 0) (t : Bool) (x y : Loaded) → (t ≡ true → Q x) → (t ≡ false → Q y) → Q (cond t x y)
+either Q true x y h g = h refl
+either Q false x y h g = g refl
+
+checked-sound : (p : Plan) → PlanKept p → Sound (checked p .node)
+unfolding checked
+checked-sound p k =
+    either (λ (r : Loaded). Sound (r .node)) (eqb (misplaced (nodeOf p)) 0) _ _ (λ e. plan-sound p k (eqb-true (misplaced (nodeOf p)) 0 e)) (λ e. refused-sound illPlaced (misplaced (nodeOf p)))
+
+read-sound : (l : Left) (r : Read Plan) → planLines l ≡ r → Sound (loadedFrom r .node)
+read-sound l (bad k n) e = refused-sound k n
+read-sound l (good p rest) e = checked-sound p (plan-kept l e)
+
+pub loaded-sound : (text : List ℕ) → Sound (loadOf text .node)
+unfolding loadOf
+loaded-sound text =
+    let all : Left = record { text = linesOf text; first = 1 } in
+    either (λ (r : Loaded). Sound (r .node)) (ltb 16384 (length text)) _ _ (λ e. refused-sound tooLong 0) (λ e. read-sound all (planLines all) refl)
+
+-- "A refused load gives a blank node"
+Blank : Loaded → Type 0
+Blank r = (r .number ≡ 0 → ⊥) → r .node ≡ blankNode
+
+read-blank : (r : Read Plan) → Blank (loadedFrom r)
+unfolding Blank refusedLoad checked
+read-blank (bad k n) = λ h. refl
+read-blank (good p rest) = either Blank (eqb (misplaced (nodeOf p)) 0) _ _ (λ e h. absurd (h refl)) (λ e h. refl)
+
+pub refused-blank : (text : List ℕ) → (loadOf text .number ≡ 0 → ⊥) → loadOf text .node ≡ blankNode
+unfolding Blank loadOf refusedLoad
+refused-blank text = either Blank (ltb 16384 (length text)) _ _ (λ e h. refl) (λ e. read-blank (planLines (record { text = linesOf text; first = 1 })))

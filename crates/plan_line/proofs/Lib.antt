@@ -1,0 +1,4 @@
+pub mod Keys
+pub mod Ops
+pub mod Ranges
+pub mod InRange

@@ -1,0 +1,332 @@
+// The lines of a plan, each read on its own.
+use node::BehaviourNumber;
+use node::Op;
+use node::ProcessNumber;
+use node::Value;
+use text::MALFORMED;
+use text::Parsed;
+use text::Ranged;
+ghost use mathlib.Core.Path.{_≡_};
+ghost use Prim.Native.Nat.{_<_};
+ghost use lib.ListN.{length, getD, drop};
+ghost use Rattle.node.specs.Ops.{operandCounts, kindsOf};
+ghost use Rattle.text.specs.Parts.{fieldsOf};
+ghost use Rattle.plan_line.specs.Ops.{worse, exact, clauseKind, lowest, highest, operandOf, withValue, withOperand, joined, operandsOf, bare, noCode, codedOf};
+ghost use Rattle.plan_line.specs.Lines.{headerTold, countTold, opTold, startOf, noStart, risen, startTold};
+
+// Start numbers that do not rise.
+const NOT_RISING: u8 = 13;
+
+// An operand as it is read: the refusal, 11 or 12, or 0; its number; and its value, where it has one.
+struct Operand {
+    refusal: u8,
+    number: u8,
+    value: Value,
+}
+
+// An op as it is read: the refusal, 11 or 12, or 0, and the op with the operands that were read.
+pub struct Coded {
+    pub refusal: u8,
+    pub op: Op,
+}
+
+// A start as it is read: the refusal, 11 or 12, or 0, and its numbers.
+pub struct Start {
+    pub refusal: u8,
+    pub process: u8,
+    pub behaviour: u8,
+}
+
+// The line `plan=1`: 11 or 0.
+pub fn header_line(line: &[u8]) -> u8
+    ensures { λ r. ⌜ r ≡ headerTold (now (line .entry)) ⌝ }
+{
+    if text::same(line, b"plan=1") {
+        return 0;
+    }
+    MALFORMED
+}
+
+// A line with a key and a number.
+pub fn count_line(line: &[u8], key: &[u8], low: u8, high: u8) -> Ranged
+    ensures { λ r. ⌜ r ≡ countTold (now (key .entry)) low high (now (line .entry)) ⌝ }
+{
+    if text::starts(line, key) {
+        let k = key.len();
+        return text::read_ranged(&line[k..], low, high);
+    }
+    Ranged {
+        refusal: MALFORMED,
+        number: 0,
+    }
+}
+
+// A line `op=` of a code with `len` ops, in a plan with `count` behaviours.
+pub fn op_line(line: &[u8], count: u8, len: u8) -> Coded
+    ensures { λ r. ⌜ r ≡ opTold count len (now (line .entry)) ⌝ }
+{
+    if text::starts(line, b"op=") {
+        return read_op(&line[3..], count, len);
+    }
+    no_code()
+}
+
+// A line `start=` behind a start of process `last`.
+pub fn start_line(line: &[u8], count: u8, last: u8) -> Start
+    ensures { λ r. ⌜ r ≡ startTold count last (now (line .entry)) ⌝ }
+{
+    if text::starts(line, b"start=") {
+        return rising(read_start(&line[6..], count), last);
+    }
+    no_start(MALFORMED)
+}
+
+// The number told of two refusals on a line: 11 before 12.
+fn worse(j: u8, k: u8) -> u8
+    ensures { λ r. ⌜ r ≡ worse j k ⌝ }
+{
+    if j == 0 {
+        return k;
+    }
+    if k == MALFORMED {
+        return MALFORMED;
+    }
+    j
+}
+
+// What follows `op=`: a word and its operands.
+fn read_op(rest: &[u8], count: u8, len: u8) -> Coded
+    ensures { λ r. ⌜ r ≡ codedOf count len (fieldsOf (now (rest .entry))) ⌝ }
+{
+    let words =
+        b"set,copy,self,add,send,exit,link,unlink,trap,spawn,recv,clause,jump,same,less,stop";
+    let k = text::word_index(words, text::field(rest, 0));
+    if k < 16 {
+        let number = k as u8;
+        if text::count_fields(rest) == (node::operand_count(number) as usize) + 1 {
+            return operands(rest, number, count, len);
+        }
+        return no_code();
+    }
+    no_code()
+}
+
+fn no_code() -> Coded
+    ensures { λ r. ⌜ r ≡ noCode ⌝ }
+{
+    Coded {
+        refusal: MALFORMED,
+        op: Op::blank(),
+    }
+}
+
+fn bare_op(number: u8) -> Coded
+    ensures { λ r. ⌜ r ≡ bare number ⌝ }
+{
+    let op = Op {
+        number,
+        r: 0,
+        s: 0,
+        target: 0,
+        small: 0,
+        value: Value::ZERO,
+        process: ProcessNumber(0),
+        behaviour: BehaviourNumber(0),
+    };
+    Coded { refusal: 0, op }
+}
+
+// The operands of op `number`, each read by its kind.
+fn operands(rest: &[u8], number: u8, count: u8, len: u8) -> Coded
+    requires { ⌜ (number < 16) × (length (drop 1 (fieldsOf (now rest))) ≡ getD operandCounts number 0) ⌝ }
+    ensures { λ r. ⌜ r ≡ operandsOf count len (bare number) (kindsOf number) (drop 1 (fieldsOf (now (rest .entry)))) ⌝ }
+{
+    let n = node::operand_count(number);
+    let mut coded = bare_op(number);
+    let mut i: u8 = 0;
+    while i < n {
+        let kind = node::operand_kind(number, i);
+        let field = text::field(rest, (i as usize) + 1);
+        coded = with_joined(coded, kind, read_operand(field, kind, count, len));
+        i += 1;
+    }
+    coded
+}
+
+// One operand more.
+fn with_joined(coded: Coded, kind: u8, x: Operand) -> Coded
+    ensures { λ r. ⌜ r ≡ joined coded kind x ⌝ }
+{
+    let op = coded.op;
+    Coded {
+        refusal: worse(coded.refusal, x.refusal),
+        op: with_operand(op, kind, x),
+    }
+}
+
+// An op with an operand of a kind.
+fn with_operand(op: Op, kind: u8, x: Operand) -> Op
+    ensures { λ r. ⌜ r ≡ withOperand op kind x ⌝ }
+{
+    let mut o = op;
+    let v = x.value;
+    match kind {
+        1 => {
+            o.r = x.number;
+            o
+        }
+        2 => {
+            o.s = x.number;
+            o
+        }
+        3 => with_value(o, o.small, v),
+        4 => {
+            o.target = x.number;
+            o
+        }
+        5 => {
+            let b = BehaviourNumber(x.number);
+            o.behaviour = b;
+            o
+        }
+        6 => {
+            let q = ProcessNumber(x.number);
+            o.process = q;
+            o
+        }
+        7 => {
+            o.small = x.number;
+            o
+        }
+        8 => {
+            o.small = x.number;
+            o
+        }
+        9 => with_value(o, x.number, v),
+        _ => o,
+    }
+}
+
+// An op with its small number and its value anew.
+fn with_value(op: Op, small: u8, value: Value) -> Op
+    ensures { λ o. ⌜ o ≡ withValue op small value ⌝ }
+{
+    let process = op.process;
+    let behaviour = op.behaviour;
+    Op {
+        number: op.number,
+        r: op.r,
+        s: op.s,
+        target: op.target,
+        small,
+        value,
+        process,
+        behaviour,
+    }
+}
+
+// An operand of a kind.
+fn read_operand(s: &[u8], kind: u8, count: u8, len: u8) -> Operand
+    ensures { λ r. ⌜ r ≡ operandOf count len kind (now (s .entry)) ⌝ }
+{
+    if kind == 3 {
+        return exact_value(text::read_value(s));
+    }
+    if kind == 9 {
+        return clause_kind(s);
+    }
+    let x = text::read_ranged(s, low_of(kind), high_of(kind, count, len));
+    Operand {
+        refusal: x.refusal,
+        number: x.number,
+        value: Value::ZERO,
+    }
+}
+
+// A clause's kind: a word, or one exact value.
+fn clause_kind(s: &[u8]) -> Operand
+    ensures { λ r. ⌜ r ≡ clauseKind (now (s .entry)) ⌝ }
+{
+    let k = text::word_index(b"any,int,atom,pid,note", s);
+    if k < 5 {
+        return Operand {
+            refusal: 0,
+            number: k as u8,
+            value: Value::ZERO,
+        };
+    }
+    exact_value(text::read_value(s))
+}
+
+fn exact_value(x: Parsed) -> Operand
+    ensures { λ r. ⌜ r ≡ exact x ⌝ }
+{
+    let value = x.value;
+    Operand {
+        refusal: x.refusal,
+        number: 5,
+        value,
+    }
+}
+
+// The range of a number, by the operand's kind.
+fn low_of(kind: u8) -> u8
+    ensures { λ r. ⌜ r ≡ getD lowest kind 0 ⌝ }
+{
+    if kind < 9 {
+        let low = [0u8, 0, 0, 0, 0, 1, 1, 0, 1];
+        let k = kind as usize;
+        return low[k];
+    }
+    0
+}
+
+fn high_of(kind: u8, count: u8, len: u8) -> u8
+    ensures { λ r. ⌜ r ≡ getD (highest count len) kind 0 ⌝ }
+{
+    if kind < 9 {
+        let high = [0u8, 3, 3, 0, len, count, 16, 1, 8];
+        let k = kind as usize;
+        return high[k];
+    }
+    0
+}
+
+// What follows `start=`: a process and a behaviour.
+fn read_start(rest: &[u8], count: u8) -> Start
+    ensures { λ r. ⌜ r ≡ startOf count (fieldsOf (now (rest .entry))) ⌝ }
+{
+    if text::count_fields(rest) == 2 {
+        let i = text::read_ranged(text::field(rest, 0), 1, 16);
+        let b = text::read_ranged(text::field(rest, 1), 1, count);
+        return Start {
+            refusal: worse(i.refusal, b.refusal),
+            process: i.number,
+            behaviour: b.number,
+        };
+    }
+    no_start(MALFORMED)
+}
+
+fn no_start(refusal: u8) -> Start
+    ensures { λ r. ⌜ r ≡ noStart refusal ⌝ }
+{
+    Start {
+        refusal,
+        process: 0,
+        behaviour: 0,
+    }
+}
+
+// 13, where its process is not above the last.
+fn rising(s: Start, last: u8) -> Start
+    ensures { λ r. ⌜ r ≡ risen last s ⌝ }
+{
+    if s.refusal != 0 {
+        return s;
+    }
+    if last < s.process {
+        return s;
+    }
+    no_start(NOT_RISING)
+}
