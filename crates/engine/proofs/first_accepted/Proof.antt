@@ -23,7 +23,7 @@ loop-holds c = (search needs, refl)
 possible-requires : tie.Need-possible-requires Inv-loop μ-loop
 possible-requires c κs =
     let its-loop-test = c .loop-test in
-    its-loop-test .taken
+    omega (arith, its-loop-test .taken)
 
 add-k : tie.Need-add-k Inv-loop μ-loop
 add-k c =
@@ -64,7 +64,7 @@ loop-again c =
     let its-encode = c .before .before .before .before .encode in
     let its-play-core = c .before .before .play-core in
     let its-if1 = c .if1 in
-    (search (needs, its-loop-test .taken), none-more (its-args .n) (its-loop .k) (its-loop-test .taken) (its-loop .inv .1) (subst (λ (s : Step). So (not (acceptable (its-args .n) (meaning s)))) (its-possible .ensures) (refuses (its-args .n) (its-possible .result) (its-encode .result) (its-encode .ensures .1) (its-play-core .result) (its-play-core .ensures) (its-if1 .left))))
+    (search (needs, its-loop-test .taken), none-more (its-args .n) (its-loop .k) (omega (arith, its-loop-test .taken)) (its-loop .inv .1) (subst (λ (s : Step). So (not (acceptable (its-args .n) (meaning s)))) (its-possible .ensures) (refuses (its-args .n) (its-possible .result) (its-encode .result) (its-encode .ensures .1) (its-play-core .result) (its-play-core .ensures) (its-if1 .left))))
 
 returns-2 : tie.Need-returns-2 Inv-loop μ-loop
 returns-2 c =
