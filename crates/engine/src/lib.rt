@@ -209,7 +209,6 @@ fn play_core(n: Node, numbers: &[u32]) -> Played
         if e.refusal != 0 {
             return ended(t, e.refusal, node);
         }
-        let moved = e.process;
         if e.sends {
             let to = e.to;
             let r = row_index(o, to);
@@ -219,7 +218,8 @@ fn play_core(n: Node, numbers: &[u32]) -> Played
             }
             let signal = e.signal;
             let next = row.pushed(signal);
-            node.processes[k] = moved;
+            let sender = e.process;
+            node.processes[k] = sender;
             node.flight[r] = next;
             continue;
         }
@@ -232,13 +232,15 @@ fn play_core(n: Node, numbers: &[u32]) -> Played
                 let child = Process::fresh(behaviour, Value::Pid(o));
                 let mail = node.mail[at];
                 let none = mail.emptied();
-                node.processes[k] = moved;
+                let parent = e.process;
+                node.processes[k] = parent;
                 node.processes[at] = child;
                 node.mail[at] = none;
                 continue;
             }
             return ended(t, 27, node);
         }
+        let moved = e.process;
         node.processes[k] = moved;
     }
     ended(i, 0, node)

@@ -490,19 +490,19 @@ ended-requires-7 c κs = tt
 returns-7 : tie.Need-returns-7 Inv-loop μ-loop
 returns-7 c =
     let its-ended7 = c .ended7 in
-    let its-args = c .before .before .before .before .before .before .before .before .before .before .before .before .before .before .before .before .before .before .before .before .before .before .before .before .before .before .before .before .args in
-    let its-loop = c .before .before .before .before .before .before .before .before .before .before .before .before .before .before .before .before .before .before .before .before .before .before .before .before .before .before .loop in
-    let its-loop-test = c .before .before .before .before .before .before .before .before .before .before .before .before .before .before .before .before .before .before .before .before .before .before .before .before .before .loop-test in
-    let its-decode = c .before .before .before .before .before .before .before .before .before .before .before .before .before .before .before .before .before .before .before .before .before .before .before .decode in
-    let its-if1 = c .before .before .before .before .before .before .before .before .before .before .before .before .before .before .before .before .before .before .before .before .before .before .if1 in
-    let its-is-unborn = c .before .before .before .before .before .before .before .before .before .before .before .before .before .before .before .before .before .before .before .is-unborn in
-    let its-if2 = c .before .before .before .before .before .before .before .before .before .before .before .before .before .before .before .before .before .before .if2 in
-    let its-if3 = c .before .before .before .before .before .before .before .before .before .before .before .before .before .before .before .before .before .if3 in
-    let its-run = c .before .before .before .before .before .before .before .before .before .before .before .run in
-    let its-behaviour-index = c .before .before .before .before .before .before .before .before .before .before .before .before .before .before .before .behaviour-index in
-    let its-op-index = c .before .before .before .before .before .before .before .before .before .before .before .before .before .op-index in
-    let its-if7 = c .before .before .before .before .before .before .before .before .before .before .if7 in
-    let its-if9 = c .before .before .before .before .before .before .before .before .if9 in
+    let its-args = c .before .before .before .before .before .before .before .before .before .before .before .before .before .before .before .before .before .before .before .before .before .before .before .before .before .before .before .args in
+    let its-loop = c .before .before .before .before .before .before .before .before .before .before .before .before .before .before .before .before .before .before .before .before .before .before .before .before .before .loop in
+    let its-loop-test = c .before .before .before .before .before .before .before .before .before .before .before .before .before .before .before .before .before .before .before .before .before .before .before .before .loop-test in
+    let its-decode = c .before .before .before .before .before .before .before .before .before .before .before .before .before .before .before .before .before .before .before .before .before .before .decode in
+    let its-if1 = c .before .before .before .before .before .before .before .before .before .before .before .before .before .before .before .before .before .before .before .before .before .if1 in
+    let its-is-unborn = c .before .before .before .before .before .before .before .before .before .before .before .before .before .before .before .before .before .before .is-unborn in
+    let its-if2 = c .before .before .before .before .before .before .before .before .before .before .before .before .before .before .before .before .before .if2 in
+    let its-if3 = c .before .before .before .before .before .before .before .before .before .before .before .before .before .before .before .before .if3 in
+    let its-run = c .before .before .before .before .before .before .before .before .before .before .run in
+    let its-behaviour-index = c .before .before .before .before .before .before .before .before .before .before .before .before .before .before .behaviour-index in
+    let its-op-index = c .before .before .before .before .before .before .before .before .before .before .before .before .op-index in
+    let its-if7 = c .before .before .before .before .before .before .before .before .before .if7 in
+    let its-if9 = c .before .before .before .before .before .before .before .if9 in
     let its-if10 = c .before .before .before .before .before .before .if10 in
     let its-row-index = c .before .before .before .before .row-index in
     let its-if11 = c .before .if11 in
@@ -511,24 +511,24 @@ returns-7 c =
 pushed-requires : tie.Need-pushed-requires Inv-loop μ-loop
 pushed-requires c κs = tt
 
-mul-moved : tie.Need-mul-moved Inv-loop μ-loop
-mul-moved c =
+mul-sender : tie.Need-mul-sender Inv-loop μ-loop
+mul-sender c =
     let its-decode = c .before .before .before .before .before .before .before .before .before .before .before .before .before .before .before .before .before .before .before .before .before .before .before .decode in
     record { fits = omega (arith, its-decode .ensures .1 .0) }
 
-element-set-from-moved : tie.Need-element-set-from-moved Inv-loop μ-loop
-element-set-from-moved c =
+element-set-from-sender : tie.Need-element-set-from-sender Inv-loop μ-loop
+element-set-from-sender c =
     let its-decode = c .before .before .before .before .before .before .before .before .before .before .before .before .before .before .before .before .before .before .before .before .before .before .before .decode in
     its-decode .ensures .1 .0
 
 mul-next-2 : tie.Need-mul-next-2 Inv-loop μ-loop
 mul-next-2 c =
-    let its-row-index = c .before .before .before .before .row-index in
+    let its-row-index = c .before .before .before .before .before .row-index in
     record { fits = omega (arith, its-row-index .ensures .1) }
 
 element-set-from-next-2 : tie.Need-element-set-from-next-2 Inv-loop μ-loop
 element-set-from-next-2 c =
-    let its-row-index = c .before .before .before .before .row-index in
+    let its-row-index = c .before .before .before .before .before .row-index in
     its-row-index .ensures .1
 
 loop-less-4 : tie.Need-loop-less-4 Inv-loop μ-loop
@@ -538,7 +538,7 @@ loop-less-4 c =
 
 loop-again-4 : tie.Need-loop-again-4 Inv-loop μ-loop
 loop-again-4 c =
-    let its-row-index = c .before .before .before .before .row-index in
+    let its-row-index = c .before .before .before .before .before .row-index in
     let its-args = c .before .before .before .before .before .before .before .before .before .before .before .before .before .before .before .before .before .before .before .before .before .before .before .before .before .before .before .before .args in
     let its-loop = c .before .before .before .before .before .before .before .before .before .before .before .before .before .before .before .before .before .before .before .before .before .before .before .before .before .before .loop in
     let its-loop-test = c .before .before .before .before .before .before .before .before .before .before .before .before .before .before .before .before .before .before .before .before .before .before .before .before .before .loop-test in
@@ -552,9 +552,9 @@ loop-again-4 c =
     let its-op-index = c .before .before .before .before .before .before .before .before .before .before .before .before .before .op-index in
     let its-if7 = c .before .before .before .before .before .before .before .before .before .before .if7 in
     let its-if9 = c .before .before .before .before .before .before .before .before .if9 in
-    let its-if10 = c .before .before .before .before .before .before .if10 in
-    let its-if11 = c .before .if11 in
-    let its-pushed = c .pushed in
+    let its-if10 = c .before .before .before .before .before .before .before .if10 in
+    let its-if11 = c .before .before .if11 in
+    let its-pushed = c .before .pushed in
     rw (its-row-index .ensures .0) (more (its-args .numbers .now) (its-loop .i) (its-loop .node) _ (its-loop-test .taken) (its-loop .inv .1) (its-loop .inv .2) (turn-sent (its-loop .node) (its-decode .result) (meant _ (its-decode .result) (its-decode .ensures .0)) (its-if1 .left) (sym (its-is-unborn .ensures) ∙ its-if2 .left) (its-loop .inv .1) (its-if3 .left) (its-run .result) (rw (its-behaviour-index .ensures .0, its-op-index .ensures .0) at (its-run .ensures)) (its-if7 .left) (its-if9 .left) (its-if10 .taken) (rw (its-row-index .ensures .0) at (its-if11 .left)) (its-pushed .result) (rw (its-row-index .ensures .0) at (its-pushed .ensures))))
 
 process-index-requires : tie.Need-process-index-requires Inv-loop μ-loop
@@ -589,34 +589,34 @@ element-copy-out-mail-3 c =
 emptied-requires : tie.Need-emptied-requires Inv-loop μ-loop
 emptied-requires c κs = tt
 
-mul-moved-2 : tie.Need-mul-moved-2 Inv-loop μ-loop
-mul-moved-2 c =
+mul-parent : tie.Need-mul-parent Inv-loop μ-loop
+mul-parent c =
     let its-decode = c .before .before .before .before .before .before .before .before .before .before .before .before .before .before .before .before .before .before .before .before .before .before .before .before .before .before .before .decode in
     record { fits = omega (arith, its-decode .ensures .1 .0) }
 
-element-set-from-moved-2 : tie.Need-element-set-from-moved-2 Inv-loop μ-loop
-element-set-from-moved-2 c =
+element-set-from-parent : tie.Need-element-set-from-parent Inv-loop μ-loop
+element-set-from-parent c =
     let its-decode = c .before .before .before .before .before .before .before .before .before .before .before .before .before .before .before .before .before .before .before .before .before .before .before .before .before .before .before .decode in
     its-decode .ensures .1 .0
 
 mul-child : tie.Need-mul-child Inv-loop μ-loop
 mul-child c =
-    let its-process-index = c .before .before .before .before .before .before .before .process-index in
+    let its-process-index = c .before .before .before .before .before .before .before .before .process-index in
     record { fits = omega (arith, its-process-index .ensures .1) }
 
 element-set-from-child : tie.Need-element-set-from-child Inv-loop μ-loop
 element-set-from-child c =
-    let its-process-index = c .before .before .before .before .before .before .before .process-index in
+    let its-process-index = c .before .before .before .before .before .before .before .before .process-index in
     its-process-index .ensures .1
 
 mul-none : tie.Need-mul-none Inv-loop μ-loop
 mul-none c =
-    let its-process-index = c .before .before .before .before .before .before .before .process-index in
+    let its-process-index = c .before .before .before .before .before .before .before .before .process-index in
     record { fits = omega (arith, its-process-index .ensures .1) }
 
 element-set-from-none : tie.Need-element-set-from-none Inv-loop μ-loop
 element-set-from-none c =
-    let its-process-index = c .before .before .before .before .before .before .before .process-index in
+    let its-process-index = c .before .before .before .before .before .before .before .before .process-index in
     its-process-index .ensures .1
 
 loop-less-5 : tie.Need-loop-less-5 Inv-loop μ-loop
@@ -639,13 +639,13 @@ loop-again-5 c =
     let its-op-index = c .before .before .before .before .before .before .before .before .before .before .before .before .before .before .before .before .before .op-index in
     let its-if7 = c .before .before .before .before .before .before .before .before .before .before .before .before .before .before .if7 in
     let its-if9 = c .before .before .before .before .before .before .before .before .before .before .before .before .if9 in
-    let its-if10 = c .before .before .before .before .before .before .before .before .before .before .if10 in
-    let its-if12 = c .before .before .before .before .before .before .before .before .before .if12 in
-    let its-process-index = c .before .before .before .before .before .before .before .process-index in
-    let its-is-unborn2 = c .before .before .before .before .before .is-unborn2 in
-    let its-if13 = c .before .before .before .before .if13 in
-    let its-fresh = c .before .before .fresh in
-    let its-emptied = c .emptied in
+    let its-if10 = c .before .before .before .before .before .before .before .before .before .before .before .if10 in
+    let its-if12 = c .before .before .before .before .before .before .before .before .before .before .if12 in
+    let its-process-index = c .before .before .before .before .before .before .before .before .process-index in
+    let its-is-unborn2 = c .before .before .before .before .before .before .is-unborn2 in
+    let its-if13 = c .before .before .before .before .before .if13 in
+    let its-fresh = c .before .before .before .fresh in
+    let its-emptied = c .before .emptied in
     more (its-args .numbers .now) (its-loop .i) (its-loop .node) _ (its-loop-test .taken) (its-loop .inv .1) (its-loop .inv .2) (turn-born (its-loop .node) (its-decode .result) (meant _ (its-decode .result) (its-decode .ensures .0)) (its-if1 .left) (sym (its-is-unborn .ensures) ∙ its-if2 .left) (its-loop .inv .1) (its-if3 .left) (its-run .result) (rw (its-behaviour-index .ensures .0, its-op-index .ensures .0) at (its-run .ensures)) (its-if7 .left) (its-if9 .left) (its-if10 .left) (its-if12 .taken) _ (its-process-index .ensures .0) (sym (its-is-unborn2 .ensures) ∙ its-if13 .taken) _ (its-fresh .ensures) _ (its-emptied .ensures))
 
 ended-requires-8 : tie.Need-ended-requires-8 Inv-loop μ-loop
@@ -654,19 +654,19 @@ ended-requires-8 c κs = tt
 returns-8 : tie.Need-returns-8 Inv-loop μ-loop
 returns-8 c =
     let its-ended8 = c .ended8 in
-    let its-args = c .before .before .before .before .before .before .before .before .before .before .before .before .before .before .before .before .before .before .before .before .before .before .before .before .before .before .before .before .before .args in
-    let its-loop = c .before .before .before .before .before .before .before .before .before .before .before .before .before .before .before .before .before .before .before .before .before .before .before .before .before .before .before .loop in
-    let its-loop-test = c .before .before .before .before .before .before .before .before .before .before .before .before .before .before .before .before .before .before .before .before .before .before .before .before .before .before .loop-test in
-    let its-decode = c .before .before .before .before .before .before .before .before .before .before .before .before .before .before .before .before .before .before .before .before .before .before .before .before .decode in
-    let its-if1 = c .before .before .before .before .before .before .before .before .before .before .before .before .before .before .before .before .before .before .before .before .before .before .before .if1 in
-    let its-is-unborn = c .before .before .before .before .before .before .before .before .before .before .before .before .before .before .before .before .before .before .before .before .is-unborn in
-    let its-if2 = c .before .before .before .before .before .before .before .before .before .before .before .before .before .before .before .before .before .before .before .if2 in
-    let its-if3 = c .before .before .before .before .before .before .before .before .before .before .before .before .before .before .before .before .before .before .if3 in
-    let its-run = c .before .before .before .before .before .before .before .before .before .before .before .before .run in
-    let its-behaviour-index = c .before .before .before .before .before .before .before .before .before .before .before .before .before .before .before .before .behaviour-index in
-    let its-op-index = c .before .before .before .before .before .before .before .before .before .before .before .before .before .before .op-index in
-    let its-if7 = c .before .before .before .before .before .before .before .before .before .before .before .if7 in
-    let its-if9 = c .before .before .before .before .before .before .before .before .before .if9 in
+    let its-args = c .before .before .before .before .before .before .before .before .before .before .before .before .before .before .before .before .before .before .before .before .before .before .before .before .before .before .before .before .args in
+    let its-loop = c .before .before .before .before .before .before .before .before .before .before .before .before .before .before .before .before .before .before .before .before .before .before .before .before .before .before .loop in
+    let its-loop-test = c .before .before .before .before .before .before .before .before .before .before .before .before .before .before .before .before .before .before .before .before .before .before .before .before .before .loop-test in
+    let its-decode = c .before .before .before .before .before .before .before .before .before .before .before .before .before .before .before .before .before .before .before .before .before .before .before .decode in
+    let its-if1 = c .before .before .before .before .before .before .before .before .before .before .before .before .before .before .before .before .before .before .before .before .before .before .if1 in
+    let its-is-unborn = c .before .before .before .before .before .before .before .before .before .before .before .before .before .before .before .before .before .before .before .is-unborn in
+    let its-if2 = c .before .before .before .before .before .before .before .before .before .before .before .before .before .before .before .before .before .before .if2 in
+    let its-if3 = c .before .before .before .before .before .before .before .before .before .before .before .before .before .before .before .before .before .if3 in
+    let its-run = c .before .before .before .before .before .before .before .before .before .before .before .run in
+    let its-behaviour-index = c .before .before .before .before .before .before .before .before .before .before .before .before .before .before .before .behaviour-index in
+    let its-op-index = c .before .before .before .before .before .before .before .before .before .before .before .before .before .op-index in
+    let its-if7 = c .before .before .before .before .before .before .before .before .before .before .if7 in
+    let its-if9 = c .before .before .before .before .before .before .before .before .if9 in
     let its-if10 = c .before .before .before .before .before .before .before .if10 in
     let its-if12 = c .before .before .before .before .before .before .if12 in
     let its-process-index = c .before .before .before .before .process-index in
@@ -674,13 +674,13 @@ returns-8 c =
     let its-if13 = c .before .if13 in
     its-ended8 .ensures ∙ stop (its-args .numbers .now) (its-loop .i) (its-loop .node) 27 (its-loop-test .taken) (its-loop .inv .1) (its-loop .inv .2) (turn-27 (its-loop .node) (its-decode .result) (meant _ (its-decode .result) (its-decode .ensures .0)) (its-if1 .left) (sym (its-is-unborn .ensures) ∙ its-if2 .left) (its-loop .inv .1) (its-if3 .left) (its-run .result) (rw (its-behaviour-index .ensures .0, its-op-index .ensures .0) at (its-run .ensures)) (its-if7 .left) (its-if9 .left) (its-if10 .left) (its-if12 .taken) _ (its-process-index .ensures .0) (sym (its-is-unborn2 .ensures) ∙ its-if13 .left))
 
-mul-moved-3 : tie.Need-mul-moved-3 Inv-loop μ-loop
-mul-moved-3 c =
+mul-moved : tie.Need-mul-moved Inv-loop μ-loop
+mul-moved c =
     let its-decode = c .before .before .before .before .before .before .before .before .before .before .before .before .before .before .before .before .before .before .decode in
     record { fits = omega (arith, its-decode .ensures .1 .0) }
 
-element-set-from-moved-3 : tie.Need-element-set-from-moved-3 Inv-loop μ-loop
-element-set-from-moved-3 c =
+element-set-from-moved : tie.Need-element-set-from-moved Inv-loop μ-loop
+element-set-from-moved c =
     let its-decode = c .before .before .before .before .before .before .before .before .before .before .before .before .before .before .before .before .before .before .decode in
     its-decode .ensures .1 .0
 
@@ -704,8 +704,8 @@ loop-again-6 c =
     let its-op-index = c .before .before .before .before .before .before .before .before .op-index in
     let its-if7 = c .before .before .before .before .before .if7 in
     let its-if9 = c .before .before .before .if9 in
-    let its-if10 = c .before .if10 in
-    let its-if12 = c .if12 in
+    let its-if10 = c .before .before .if10 in
+    let its-if12 = c .before .if12 in
     more (its-args .numbers .now) (its-loop .i) (its-loop .node) _ (its-loop-test .taken) (its-loop .inv .1) (its-loop .inv .2) (turn-plain (its-loop .node) (its-decode .result) (meant _ (its-decode .result) (its-decode .ensures .0)) (its-if1 .left) (sym (its-is-unborn .ensures) ∙ its-if2 .left) (its-loop .inv .1) (its-if3 .left) (its-run .result) (rw (its-behaviour-index .ensures .0, its-op-index .ensures .0) at (its-run .ensures)) (its-if7 .left) (its-if9 .left) (its-if10 .left) (its-if12 .left))
 
 ended-requires-9 : tie.Need-ended-requires-9 Inv-loop μ-loop
@@ -808,8 +808,8 @@ play-core-spec =
     ended-requires-7
     returns-7
     pushed-requires
-    mul-moved
-    element-set-from-moved
+    mul-sender
+    element-set-from-sender
     mul-next-2
     element-set-from-next-2
     loop-less-4
@@ -822,8 +822,8 @@ play-core-spec =
     mul-mail-3
     element-copy-out-mail-3
     emptied-requires
-    mul-moved-2
-    element-set-from-moved-2
+    mul-parent
+    element-set-from-parent
     mul-child
     element-set-from-child
     mul-none
@@ -832,8 +832,8 @@ play-core-spec =
     loop-again-5
     ended-requires-8
     returns-8
-    mul-moved-3
-    element-set-from-moved-3
+    mul-moved
+    element-set-from-moved
     loop-less-6
     loop-again-6
     ended-requires-9
