@@ -87,20 +87,22 @@ landed : (code : List Instruction) (h : Bool) (t : ℕ) → cond h (not (onClaus
 landed code true t = refl
 landed code false t = rw (on-clause-end code (length code) (omega arith))
 
-pub target-free : (code : List Instruction) (o : Op) → targetsFree code (instruction o) ≡ not (onClause code (cond (hasTarget (o .number)) (o .target) (length code)))
+target-free : (code : List Instruction) (o : Op) → targetsFree code (instruction o) ≡ not (onClause code (cond (hasTarget (o .number)) (o .target) (length code)))
 unfolding targetsFree instruction hasTarget
 target-free code o =
     allTwo-map (λ kind x. not (eqb kind 4) || not (onClause code (x .number))) (operand o) (kindsOf (o .number))
     ∙ all-kinds o (λ t. not (onClause code t)) (kindsOf (o .number))
     ∙ landed code (hasTarget (o .number)) (o .target)
 
--- the op at place t leads to no clause
-pub target-at : (n : ℕ) (ops : List Op) (k t to : ℕ) → t < n → to ≡ cond (hasTarget (getD ops (32 * k + t) noOp .number)) (getD ops (32 * k + t) noOp .target) n → targetsFree (codeIn n ops k) (getD (codeIn n ops k) t (instruction noOp)) ≡ not (onClause (codeIn n ops k) to)
-target-at n ops k t to h e =
-    let o = getD ops (32 * k + t) noOp in
-    ap (targetsFree (codeIn n ops k)) (code-at n ops k t h) ∙ target-free (codeIn n ops k) o
+-- an op that may lead to place `to`, and the op at place t
+pub target-to : (n : ℕ) (ops : List Op) (k : ℕ) (o : Op) (to : ℕ) → to ≡ cond (hasTarget (o .number)) (o .target) n → targetsFree (codeIn n ops k) (instruction o) ≡ not (onClause (codeIn n ops k) to)
+target-to n ops k o to e =
+    target-free (codeIn n ops k) o
     ∙ ap (λ (m : ℕ). not (onClause (codeIn n ops k) (cond (hasTarget (o .number)) (o .target) m))) (code-length n ops k)
     ∙ ap (λ (u : ℕ). not (onClause (codeIn n ops k) u)) (sym e)
+
+pub target-at : (n : ℕ) (ops : List Op) (k t to : ℕ) → t < n → to ≡ cond (hasTarget (getD ops (32 * k + t) noOp .number)) (getD ops (32 * k + t) noOp .target) n → targetsFree (codeIn n ops k) (getD (codeIn n ops k) t (instruction noOp)) ≡ not (onClause (codeIn n ops k) to)
+target-at n ops k t to h e = ap (targetsFree (codeIn n ops k)) (code-at n ops k t h) ∙ target-to n ops k (getD ops (32 * k + t) noOp) to e
 
 -- the rules of a behaviour, in the two loops that test them
 split-op : (c n : ℕ) (code : List Instruction) (t : ℕ) (x : Instruction) → (inRange c n x && wellPlaced code t x) ≡ (inRange c n x && placed code t x && targetsFree code x)

@@ -1,6 +1,7 @@
 -- Laws of rule 14 by the ops as they stand in a node, and of the walk that looks for the first op that breaks it. Assumes nothing.
 --   placed-recv placed-stray placed-due placed-other   rule 14 of an op, by its number
 --   clauses-few clauses-begin clause-stop clause-more clauses-end   the loop over the clauses of a recv
+--   lands-end lands-at                    the place that an op leads to
 --   in-begin in-stop in-more in-end       the loop over the ops of a behaviour
 --   from-stop from-more from-end          the loop over the behaviours
 use mathlib.Core.Bool.{Bool, true, false, not, cond, and-true}
@@ -18,9 +19,9 @@ use Rattle.node.specs.Lists.{allFrom}
 use Rattle.node.specs.Nodes.{noOp}
 use Rattle.node.specs.Ops.{kindsOf}
 use Rattle.node.proofs.Lists.{all-more, all-stop, all-end, allOf-from}
-use Rattle.rules.specs.Behaviours.{Instruction, due, hasClauses, instruction, isClause, onClause, targetsFree, wellPlaced}
+use Rattle.rules.specs.Behaviours.{Instruction, due, hasClauses, instruction, isClause, targetsFree, wellPlaced}
 use Rattle.behaviours.specs.Codes.{codeIn, hasTarget}
-use Rattle.behaviours.proofs.Codes.{clause-count, code-at, code-length, on-clause-at, on-clause-end, target-free}
+use Rattle.behaviours.proofs.Codes.{clause-count, code-at, code-length, on-clause-at, on-clause-end, target-to}
 use Rattle.placement.specs.Misplaced.{misplacedIn, misplacedFrom}
 
 -- ---- one op
@@ -32,10 +33,8 @@ module _ (n : ℕ) (ops : List Op) (k t : ℕ) (h : t < n) {o : Op} (at : o ≡ 
   recv-free : o .number ≡ 10 → targetsFree (codeIn n ops k) (instruction o) ≡ true
   unfolding hasTarget kindsOf
   recv-free e =
-      let code = codeIn n ops k in
-      target-free code o
-      ∙ ap (λ (j : ℕ). not (onClause code (cond (hasTarget j) (o .target) (length code)))) e
-      ∙ ap not (on-clause-end code (length code) (omega arith))
+      let none : n ≡ cond (hasTarget (o .number)) (o .target) n = ap (λ (j : ℕ). cond (hasTarget j) (o .target) n) (sym e) in
+      target-to n ops k o n none ∙ ap not (on-clause-end (codeIn n ops k) n (omega (arith, code-length n ops k)))
 
   module _ {r : Bool} where
     pub placed-recv : o .number ≡ 10 → r ≡ hasClauses (o .small) (drop (t + 1) (codeIn n ops k)) → r ≡ wellPlaced (codeIn n ops k) t (getD (codeIn n ops k) t (instruction noOp))
@@ -103,18 +102,11 @@ module _ (n : ℕ) (ops : List Op) (k t m : ℕ) where
 -- ---- the target of an op
 
 module _ (n : ℕ) (ops : List Op) (k : ℕ) (o : Op) {to : ℕ} (by : to ≡ cond (hasTarget (o .number)) (o .target) n) where
-  lands : targetsFree (codeIn n ops k) (instruction o) ≡ not (onClause (codeIn n ops k) to)
-  lands =
-      let code = codeIn n ops k in
-      target-free code o
-      ∙ ap (λ (m : ℕ). not (onClause code (cond (hasTarget (o .number)) (o .target) m))) (code-length n ops k)
-      ∙ ap (λ (u : ℕ). not (onClause code u)) (sym by)
-
   pub lands-end : n ≤ to → true ≡ targetsFree (codeIn n ops k) (instruction o)
-  lands-end h = sym (lands ∙ ap not (on-clause-end (codeIn n ops k) to (omega (arith, code-length n ops k))))
+  lands-end h = sym (target-to n ops k o to by ∙ ap not (on-clause-end (codeIn n ops k) to (omega (arith, code-length n ops k))))
 
   pub lands-at : {x : Op} → to < n → x ≡ getD ops (32 * k + to) noOp → not (eqb (x .number) 11) ≡ targetsFree (codeIn n ops k) (instruction o)
-  lands-at h e = sym (lands ∙ ap not (on-clause-at n ops k to h) ∙ ap (λ (y : Op). not (eqb (y .number) 11)) (sym e))
+  lands-at h e = sym (target-to n ops k o to by ∙ ap not (on-clause-at n ops k to h) ∙ ap (λ (y : Op). not (eqb (y .number) 11)) (sym e))
 
 -- ---- the ops of a behaviour, the first of them on line f
 

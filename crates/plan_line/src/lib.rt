@@ -169,6 +169,7 @@ fn with_operand(op: Op, kind: u8, x: Operand) -> Op
     ensures { λ r. ⌜ r ≡ withOperand op kind x ⌝ }
 {
     let mut o = op;
+    let kept = op.value;
     let v = x.value;
     match kind {
         1 => {
@@ -194,14 +195,8 @@ fn with_operand(op: Op, kind: u8, x: Operand) -> Op
             o.process = q;
             o
         }
-        7 => {
-            o.small = x.number;
-            o
-        }
-        8 => {
-            o.small = x.number;
-            o
-        }
+        7 => with_value(o, x.number, kept),
+        8 => with_value(o, x.number, kept),
         9 => with_value(o, x.number, v),
         _ => o,
     }

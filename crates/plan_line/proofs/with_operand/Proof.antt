@@ -12,6 +12,12 @@ with-value-requires c κs = search needs
 with-value-requires-2 : tie.Need-with-value-requires-2
 with-value-requires-2 c κs = search needs
 
+with-value-requires-3 : tie.Need-with-value-requires-3
+with-value-requires-3 c κs = search needs
+
+with-value-requires-4 : tie.Need-with-value-requires-4
+with-value-requires-4 c κs = search needs
+
 returns : tie.Need-returns
 unfolding withOperand
 returns c = rw (c .match .keys1)
@@ -38,15 +44,15 @@ returns-6 c = rw (c .match .keys6)
 
 returns-7 : tie.Need-returns-7
 unfolding withOperand
-returns-7 c = rw (c .match .keys7)
+returns-7 c = c .with-value2 .ensures ∙ rw (c .before .match .keys7)
 
 returns-8 : tie.Need-returns-8
 unfolding withOperand
-returns-8 c = rw (c .match .keys8)
+returns-8 c = c .with-value3 .ensures ∙ rw (c .before .match .keys8)
 
 returns-9 : tie.Need-returns-9
 unfolding withOperand
-returns-9 c = c .with-value2 .ensures ∙ rw (c .before .match .keys9)
+returns-9 c = c .with-value4 .ensures ∙ rw (c .before .match .keys9)
 
 returns-10 : tie.Need-returns-10
 unfolding withOperand
@@ -70,6 +76,8 @@ with-operand-spec =
     (tie.spec
     with-value-requires
     with-value-requires-2
+    with-value-requires-3
+    with-value-requires-4
     returns
     returns-2
     returns-3
