@@ -56,7 +56,8 @@ pub fn list_sound(n: Node, out: &mut [u8]) -> Listed
     Listed { number: 0, length }
 }
 
-fn put_listing(out: &mut [u8], at: usize, n: Node) -> usize
+// The listing at a place of a buffer, as far as the buffer reaches; the place behind it is told.
+pub fn put_listing(out: &mut [u8], at: usize, n: Node) -> usize
     ensures { λ e. ⌜ Wrote (now (out .entry)) at (listingOf n) (now (out .exit)) e ⌝ }
 {
     let e = put_processes(out, at, n);

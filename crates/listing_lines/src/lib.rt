@@ -212,7 +212,8 @@ fn put_exit(out: &mut [u8], at: usize, v: Value, b: bool) -> usize
     put_byte(out, e, b'\n')
 }
 
-fn put_number_line(out: &mut [u8], at: usize, key: &[u8], n: u64) -> usize
+// A key, a number and byte 10.
+pub fn put_number_line(out: &mut [u8], at: usize, key: &[u8], n: u64) -> usize
     ensures { λ e. ⌜ Wrote (now (out .entry)) at (numberLine (now (key .entry)) n) (now (out .exit)) e ⌝ }
 {
     let e = put_bytes(out, at, key);

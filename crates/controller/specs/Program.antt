@@ -1,0 +1,52 @@
+-- What the program prints (document 01, "Plan, steps and listing text").
+--   refusedLine key k line   `key` with a refusal's number and line
+--   playedText r             what is printed of a play: the count, the refusal and the listing of the node
+--   steps s                  the steps of an accepted steps text, as actions
+--   programText plan steps   what is printed for a plan text and a steps text
+use mathlib.Core.Bool.{cond}
+use mathlib.Core.List.{List, [], _∷_, _++_, map}
+use Prim.Native.Nat.{ℕ}
+use lib.Dec.{eqb}
+use lib.ListN.{take}
+use Rattle.actions.specs.Numbers.{actionOf}
+use Rattle.listing.specs.Listing.{listingOf}
+use Rattle.listing_lines.specs.Lines.{numberLine}
+use Rattle.plan.specs.declared.Loaded.{Loaded}
+use Rattle.plan.specs.Plans.{loadOf}
+use Rattle.rules.specs.Steps.{Action, Played, play}
+use Rattle.schedule.specs.declared.Schedule.{Schedule}
+use Rattle.schedule.specs.Reading.{scheduleOf}
+use Rattle.text.specs.Writing.{digits}
+
+abbrev pub loadKey : List ℕ
+loadKey = 108 ∷ 111 ∷ 97 ∷ 100 ∷ 61 ∷ []  -- load=
+
+abbrev pub stepsKey : List ℕ
+stepsKey = 115 ∷ 116 ∷ 101 ∷ 112 ∷ 115 ∷ 61 ∷ []  -- steps=
+
+abbrev pub acceptedKey : List ℕ
+acceptedKey = 97 ∷ 99 ∷ 99 ∷ 101 ∷ 112 ∷ 116 ∷ 101 ∷ 100 ∷ 61 ∷ []  -- accepted=
+
+abbrev pub refusedKey : List ℕ
+refusedKey = 114 ∷ 101 ∷ 102 ∷ 117 ∷ 115 ∷ 101 ∷ 100 ∷ 61 ∷ []  -- refused=
+
+-- "`load=number,line`", "`steps=number,line`"; 44 is a comma, 10 ends the line
+unfoldable pub refusedLine : List ℕ → ℕ → ℕ → List ℕ
+refusedLine key k line = key ++ digits k ++ (44 ∷ []) ++ digits line ++ (10 ∷ [])
+
+-- "`accepted=`, `refused=` and the listing"
+unfoldable pub playedText : Played → List ℕ
+playedText r = numberLine acceptedKey (r .accepted) ++ numberLine refusedKey (r .refusal) ++ listingOf (r .node)
+
+abbrev pub steps : Schedule → List Action
+steps s = map actionOf (take (s .count) (s .steps))
+
+-- the text of the steps is looked at only where the plan is accepted
+unfoldable pub afterLoad : Loaded → Schedule → List ℕ
+afterLoad l s =
+    cond (eqb (l .number) 0)
+    (cond (eqb (s .number) 0) (playedText (play (l .node) (steps s))) (refusedLine stepsKey (s .number) (s .line)))
+    (refusedLine loadKey (l .number) (l .line))
+
+unfoldable pub programText : List ℕ → List ℕ → List ℕ
+programText planText stepsText = afterLoad (loadOf planText) (scheduleOf stepsText)
