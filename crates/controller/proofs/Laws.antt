@@ -1,15 +1,16 @@
 -- One law for each return of the controller's calls. Assumes nothing.
 --   as-text                                  a text is shown under another name
 --   text-load text-steps text-played         what the program prints, by what is refused
+--   told-within                              the length that is told lies within the buffer
 --   listed-unsound listed-short listed-whole a play with its listing: 31, 30, and what is told and shown
 use mathlib.Core.Bool.{Bool, true, false, cond}
-use mathlib.Core.List.{List}
+use mathlib.Core.List.{List, _++_}
 use mathlib.Core.Path.{_≡_, refl, _∙_, ap}
-use Prim.Native.Nat.{ℕ}
+use Prim.Native.Nat.{ℕ, _≤_}
 use native.Mathlib.Omega.{arith}
 use borrow.Author.Tests.{eq-eqb, ne-eqb}
 use lib.Dec.{ltb}
-use lib.ListN.{length}
+use lib.ListN.{length, drop, length-append}
 use Rattle.engine.specs.declared.Played.{Played as Answered}
 use Rattle.engine.specs.Answers.{playedOf}
 use Rattle.listing.specs.declared.Listed.{Listed}
@@ -43,6 +44,15 @@ module _ {l : Loaded} (p q : List ℕ) (loaded : l ≡ loadOf p) where
     pub text-played : {r : Answered} → s .number ≡ 0 → playedOf r ≡ play (l .node) (steps s) → playedText (playedOf r) ≡ programText p q
     unfolding programText afterLoad
     text-played h e = rw (← loaded, ← read, eq-eqb (l .number) 0 good, eq-eqb (s .number) 0 h) (ap playedText e)
+
+-- what is told to be written lies within the buffer
+pub told-within : (o t : List ℕ) {x : Listed} {m : List ℕ} → (x ≡ told o t) × (m ≡ shown o t) → x .length ≤ length m
+unfolding told shown
+told-within o t p = rw (p .0, p .1) (go (ltb (length o) (length t)))
+  where
+    go : (b : Bool) → cond b (refusedWith outputShort) (record { number = 0; length = length t }) .length ≤ length (cond b o (t ++ drop (length t) o))
+    go true = omega arith
+    go false = omega (arith, length-append t (drop (length t) o))
 
 -- ---- a play with its listing; b is whether the node is sound
 
