@@ -1,0 +1,183 @@
+//! Compares the bytes of the proved library, and of the built program, with those of the second interpreter:
+//! `compare PROGRAM SEED LIBRARY_CASES PROGRAM_CASES`. Prints what the cases reached, and fails at the first difference or where
+//! something that document 01 names was reached by no case.
+
+use second::Coverage;
+use std::fs;
+use std::path::{Path, PathBuf};
+use std::process::{exit, Command};
+
+fn library(plan: &[u8], steps: &[u8]) -> Vec<u8> {
+    let mut out = vec![0xA5; open_controller::OUTPUT];
+    let length = open_controller::simulate(plan, steps, &mut out).expect("the buffer holds every answer");
+    if out[length..].iter().any(|byte| *byte != 0xA5) {
+        println!("the bytes behind the answer changed");
+        exit(1);
+    }
+    out.truncate(length);
+    out
+}
+
+/// A buffer that is one byte too short is left as it was, and one of the exact length is enough.
+fn check_room(plan: &[u8], steps: &[u8], expected: &[u8]) {
+    let mut exact = vec![0xA5; expected.len()];
+    assert_eq!(open_controller::simulate(plan, steps, &mut exact), Ok(expected.len()));
+    assert_eq!(exact, expected);
+    let mut short = vec![0xA5; expected.len() - 1];
+    assert_eq!(open_controller::simulate(plan, steps, &mut short), Err(open_controller::Short));
+    assert!(short.iter().all(|byte| *byte == 0xA5));
+}
+
+fn differ(what: &str, plan: &[u8], steps: &[u8], expected: &[u8], found: &[u8]) -> ! {
+    println!("{what} differs from the second interpreter");
+    for (name, bytes) in [("plan", plan), ("steps", steps), ("second interpreter", expected), (what, found)] {
+        println!("---- {name}\n{}", String::from_utf8_lossy(bytes));
+    }
+    exit(1);
+}
+
+/// What a file of the program is: bytes, a folder, or not there.
+enum File<'a> {
+    Bytes(&'a [u8]),
+    Folder,
+    Absent,
+}
+
+fn put(path: &Path, file: &File) {
+    let _ = fs::remove_file(path);
+    let _ = fs::remove_dir(path);
+    match file {
+        File::Bytes(bytes) => fs::write(path, bytes).unwrap(),
+        File::Folder => fs::create_dir(path).unwrap(),
+        File::Absent => {}
+    }
+}
+
+/// What the file counts as; the program reads at most one byte past the limit.
+fn text<'a>(file: &'a File, limit: usize) -> &'a [u8] {
+    match file {
+        File::Bytes(bytes) => &bytes[..bytes.len().min(limit + 1)],
+        File::Folder | File::Absent => b"",
+    }
+}
+
+fn run_program(program: &Path, folder: &Path, plan: &File, steps: &File) {
+    put(&folder.join("plan.txt"), plan);
+    put(&folder.join("steps.txt"), steps);
+    let answer = Command::new(program).current_dir(folder).output().expect("the program starts");
+    let (plan, steps) = (text(plan, 16_384), text(steps, 61_440));
+    let expected = second::simulate(plan, steps);
+    if answer.stdout != expected || !answer.status.success() || !answer.stderr.is_empty() {
+        differ("the program", plan, steps, &expected, &answer.stdout);
+    }
+}
+
+/// A plan that fills its limit, by ops that are as long as they can be; with `more` bytes behind it.
+fn long_plan(more: usize) -> Vec<u8> {
+    let mut plan = b"plan=1\nbehaviours=1\ncode=1\nop=set,0,i".to_vec();
+    let tail = b"\nstarts=1\nstart=1,1\n";
+    plan.resize(16_384 + more - tail.len(), b'9');
+    plan.extend_from_slice(tail);
+    plan
+}
+
+/// Steps text of a length, whole lines of one step and at the end one that is made longer by its key.
+fn long_steps(length: usize) -> Vec<u8> {
+    let mut steps = b"arrive=255,255\n".repeat(length / 15);
+    steps.resize(length, b'\n');
+    steps
+}
+
+fn special_files(program: &Path, folder: &Path) -> usize {
+    let (plan, steps) = second::case(1, 0);
+    let plans = [
+        File::Bytes(&plan),
+        File::Bytes(b""),
+        File::Absent,
+        File::Folder,
+        File::Bytes(&long_plan(0)[..]),
+        File::Bytes(&long_plan(1)[..]),
+        File::Bytes(&long_plan(5000)[..]),
+    ]
+    .map(own);
+    let step_files = [
+        File::Bytes(&steps),
+        File::Bytes(b""),
+        File::Absent,
+        File::Folder,
+        File::Bytes(&long_steps(61_440)[..]),
+        File::Bytes(&long_steps(61_441)[..]),
+        File::Bytes(&b"run=1\n".repeat(4096)[..]),
+        File::Bytes(&b"run=1\n".repeat(4097)[..]),
+        File::Bytes(&b"\n".repeat(61_440)[..]),
+    ]
+    .map(own);
+    for plan in &plans {
+        for steps in &step_files {
+            run_program(program, folder, &borrow(plan), &borrow(steps));
+        }
+    }
+    plans.len() * step_files.len()
+}
+
+enum Owned {
+    Bytes(Vec<u8>),
+    Folder,
+    Absent,
+}
+
+fn own(file: File) -> Owned {
+    match file {
+        File::Bytes(bytes) => Owned::Bytes(bytes.to_vec()),
+        File::Folder => Owned::Folder,
+        File::Absent => Owned::Absent,
+    }
+}
+
+fn borrow(file: &Owned) -> File<'_> {
+    match file {
+        Owned::Bytes(bytes) => File::Bytes(bytes),
+        Owned::Folder => File::Folder,
+        Owned::Absent => File::Absent,
+    }
+}
+
+fn main() {
+    let words: Vec<String> = std::env::args().skip(1).collect();
+    let [program, seed, library_cases, program_cases] = &words[..] else {
+        eprintln!("usage: compare PROGRAM SEED LIBRARY_CASES PROGRAM_CASES");
+        exit(2);
+    };
+    let program = PathBuf::from(program).canonicalize().expect("the program is there");
+    let seed: u64 = seed.parse().expect("a number");
+    let library_cases: u64 = library_cases.parse().expect("a number");
+    let program_cases: u64 = program_cases.parse().expect("a number");
+
+    let mut coverage = Coverage::new();
+    for k in 0..library_cases {
+        let (plan, steps) = second::case(seed, k);
+        let expected = second::simulate_counted(&plan, &steps, &mut coverage);
+        let found = library(&plan, &steps);
+        if found != expected {
+            differ("the library", &plan, &steps, &expected, &found);
+        }
+        if k % 64 == 0 {
+            check_room(&plan, &steps, &expected);
+        }
+    }
+    let folder = std::env::temp_dir().join(format!("open_controller-{}", std::process::id()));
+    fs::create_dir_all(&folder).unwrap();
+    for k in 0..program_cases {
+        let (plan, steps) = second::case(seed + 1, k);
+        run_program(&program, &folder, &File::Bytes(&plan), &File::Bytes(&steps));
+    }
+    let files = special_files(&program, &folder);
+    fs::remove_dir_all(&folder).unwrap();
+    print!("{coverage}");
+    println!("seed {seed}: the library agrees on {library_cases} cases, the program on {program_cases} cases and {files} pairs of files");
+    let missing = coverage.rarer_than(1);
+    if !missing.is_empty() {
+        println!("reached by no case: {}", missing.join("; "));
+        exit(1);
+    }
+}
