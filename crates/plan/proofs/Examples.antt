@@ -21,13 +21,13 @@ use Rattle.plan.specs.Plans.{Plan, codeLines, startLines, planLines, mis
 use Rattle.plan_line.specs.Ops.{worse}
 use Rattle.plan.specs.Reading.{onLine, times, endOf}
 
-opWith : ℕ → ℕ → ℕ → ℕ → ℕ → Value → Op
+unfoldable pub opWith : ℕ → ℕ → ℕ → ℕ → ℕ → Value → Op
 opWith k r s t small v = record { number = k; r = r; s = s; target = t; small = small; value = v; process = record { 0 = 0 }; behaviour = record { 0 = 0 } }
 
-startWith : ℕ → ℕ → Start
+unfoldable pub startWith : ℕ → ℕ → Start
 startWith i b = record { refusal = 0; process = i; behaviour = b }
 
-samplePlan : Plan
+unfoldable pub samplePlan : Plan
 samplePlan = record {
   codes =
       (opWith 0 0 0 0 0 (pid 2)  -- set,0,p2
@@ -41,7 +41,7 @@ samplePlan = record {
   starts = startWith 1 1 ∷ startWith 2 2 ∷ [];
 }
 
-sample : loadOf (112 ∷ 108 ∷ 97 ∷ 110 ∷ 61 ∷ 49 ∷ 10 ∷ 98 ∷ 101 ∷ 104 ∷ 97 ∷ 118 ∷ 105 ∷ 111 ∷ 117 ∷ 114 ∷ 115 ∷ 61 ∷ 50 ∷ 10 ∷ 99 ∷ 111 ∷ 100 ∷ 101 ∷ 61 ∷ 51 ∷ 10 ∷ 111 ∷ 112 ∷ 61 ∷ 115 ∷ 101 ∷ 116 ∷ 44 ∷ 48 ∷ 44 ∷ 112 ∷ 50 ∷ 10 ∷ 111 ∷ 112 ∷ 61 ∷ 115 ∷ 101 ∷ 116 ∷ 44 ∷ 49 ∷ 44 ∷ 105 ∷ 49 ∷ 50 ∷ 10 ∷ 111 ∷ 112 ∷ 61 ∷ 115 ∷ 101 ∷ 110 ∷ 100 ∷ 44 ∷ 48 ∷ 44 ∷ 49 ∷ 10 ∷ 99 ∷ 111 ∷ 100 ∷ 101 ∷ 61 ∷ 50 ∷ 10 ∷ 111 ∷ 112 ∷ 61 ∷ 114 ∷ 101 ∷ 99 ∷ 118 ∷ 44 ∷ 49 ∷ 10 ∷ 111 ∷ 112 ∷ 61 ∷ 99 ∷ 108 ∷ 97 ∷ 117 ∷ 115 ∷ 101 ∷ 44 ∷ 105 ∷ 110 ∷ 116 ∷ 44 ∷ 48 ∷ 44 ∷ 49 ∷ 44 ∷ 50 ∷ 10 ∷ 115 ∷ 116 ∷ 97 ∷ 114 ∷ 116 ∷ 115 ∷ 61 ∷ 50 ∷ 10 ∷ 115 ∷ 116 ∷ 97 ∷ 114 ∷ 116 ∷ 61 ∷ 49 ∷ 44 ∷ 49 ∷ 10 ∷ 115 ∷ 116 ∷ 97 ∷ 114 ∷ 116 ∷ 61 ∷ 50 ∷ 44 ∷ 50 ∷ 10 ∷ []) ≡ record { number = 0; line = 0; node = nodeOf samplePlan }
+pub sample : loadOf (112 ∷ 108 ∷ 97 ∷ 110 ∷ 61 ∷ 49 ∷ 10 ∷ 98 ∷ 101 ∷ 104 ∷ 97 ∷ 118 ∷ 105 ∷ 111 ∷ 117 ∷ 114 ∷ 115 ∷ 61 ∷ 50 ∷ 10 ∷ 99 ∷ 111 ∷ 100 ∷ 101 ∷ 61 ∷ 51 ∷ 10 ∷ 111 ∷ 112 ∷ 61 ∷ 115 ∷ 101 ∷ 116 ∷ 44 ∷ 48 ∷ 44 ∷ 112 ∷ 50 ∷ 10 ∷ 111 ∷ 112 ∷ 61 ∷ 115 ∷ 101 ∷ 116 ∷ 44 ∷ 49 ∷ 44 ∷ 105 ∷ 49 ∷ 50 ∷ 10 ∷ 111 ∷ 112 ∷ 61 ∷ 115 ∷ 101 ∷ 110 ∷ 100 ∷ 44 ∷ 48 ∷ 44 ∷ 49 ∷ 10 ∷ 99 ∷ 111 ∷ 100 ∷ 101 ∷ 61 ∷ 50 ∷ 10 ∷ 111 ∷ 112 ∷ 61 ∷ 114 ∷ 101 ∷ 99 ∷ 118 ∷ 44 ∷ 49 ∷ 10 ∷ 111 ∷ 112 ∷ 61 ∷ 99 ∷ 108 ∷ 97 ∷ 117 ∷ 115 ∷ 101 ∷ 44 ∷ 105 ∷ 110 ∷ 116 ∷ 44 ∷ 48 ∷ 44 ∷ 49 ∷ 44 ∷ 50 ∷ 10 ∷ 115 ∷ 116 ∷ 97 ∷ 114 ∷ 116 ∷ 115 ∷ 61 ∷ 50 ∷ 10 ∷ 115 ∷ 116 ∷ 97 ∷ 114 ∷ 116 ∷ 61 ∷ 49 ∷ 44 ∷ 49 ∷ 10 ∷ 115 ∷ 116 ∷ 97 ∷ 114 ∷ 116 ∷ 61 ∷ 50 ∷ 44 ∷ 50 ∷ 10 ∷ []) ≡ record { number = 0; line = 0; node = nodeOf samplePlan }
 unfolding opWith startWith samplePlan loadOf refusedLoad checked planLines codeLines startLines headerTold headerLine countTold countLine opTold opLine startTold startLine risen startOf behavioursOf code nodeOf misplaced misplacedFrom misplacedIn onLine times endOf worse codedOf opOf operandsOf withOperand operandOf clauseKind instruction operand wellPlaced hasClauses targetsFree kindsOf indexOf linesOf lastApart lineThen split inFront fieldsOf equal startsWith numberOf numberForm unsignedForm unsigned negative isDigit numberValue decimal rangedOf valueOf byLetter intOf plusOf minusOf
 sample = refl
 

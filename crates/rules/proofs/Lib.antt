@@ -10,5 +10,4 @@ pub mod Order
 pub mod Paths
 pub mod Suggest
 pub mod Sample
-pub mod Ramp
 pub mod Witness

@@ -1,8 +1,8 @@
--- The ramp checks of document 01, computed on the rules: P1 for every sound node, and one table for the others.
--- The two checks without a number stand in the table too, and the play of the sample plan. Assumes nothing.
+-- The ramp checks of document 01, computed on the definitions: P1 for every sound node, P2 from the bytes of the sample's two texts to the
+-- bytes that are printed, and one table for the others. The two checks without a number stand in the table too. Assumes nothing.
 use mathlib.Core.Bool.{Bool, true, false}
 use mathlib.Core.List.{List, [], _∷_, _++_, map}
-use mathlib.Core.Path.{_≡_, refl}
+use mathlib.Core.Path.{_≡_, refl, _∙_, ap}
 use Prim.Native.Nat.{ℕ}
 use lib.ListN.{set, replicate}
 use Rattle.node.specs.declared.Message.{Message}
@@ -22,14 +22,25 @@ use Rattle.node.specs.Ops.{stopOp, kindsOf}
 use Rattle.node.specs.Processes.{unborn, fresh, register, withRegister, moved, advanced, trapped, linksTo, linked, unlinked, ended, gone, withPlace}
 use Rattle.node.specs.Rows.{noSignal, emptyRow, signals, oldest, pushed, popped}
 use Rattle.node.specs.Values.{intZero, normal, kill, killed, badarith, pid}
 use Rattle.rules.specs.Arrive.{arrives, exits}
 use Rattle.rules.specs.Behaviours.{operand, instruction, operandInRange, inRange, hasClauses, targetsFree, wellPlaced, codeSound}
 use Rattle.rules.specs.Nodes.{Sound, sound, viewSound, view, behavioursOf, code, linkSet, standing, runningSound, rowSound}
 use Rattle.rules.specs.Receive.{receives, fits}
 use Rattle.rules.specs.Run.{runs, runsLive, runsOp, closes}
-use Rattle.rules.specs.Steps.{Action, run, arrive, play, played, step, rule, ready, commit, incoming, decide, at, numbered, ownerBorn, signalWaits, pairHasRoom, numberFree}
+use Rattle.rules.specs.Steps.{Action, run, arrive, meaning, Played, play, played, step, rule, ready, commit, incoming, decide, at, numbered, ownerBorn, signalWaits, pairHasRoom, numberFree}
 use Rattle.rules.specs.Values.{isNumber, fitsInt}
 use Rattle.rules.proofs.Sample.{opOf, int, sample, started}
+use Rattle.actions.specs.Numbers.{decode, actionOf}
+use Rattle.listing.specs.Listing.{listingOf}
+use Rattle.listing.proofs.Examples.{sample-listing}
+use Rattle.listing_lines.specs.Lines.{numberLine}
+use Rattle.plan.specs.Plans.{nodeOf, loadOf}
+use Rattle.plan.proofs.Examples.{opWith, startWith, samplePlan, sample as loaded-sample}
+use Rattle.schedule.specs.Reading.{packedOf, arrivalOf, stepOf, readLines, firstMalformed, stepsOf, refusedText, acceptedSteps, ofLines, scheduleOf}
+use Rattle.text.specs.Numbers.{isDigit, unsignedForm, negative, unsigned, numberForm, decimal, numberValue, numberOf, rangedOf}
+use Rattle.text.specs.Parts.{split, inFront, lineThen, lastApart, linesOf, fieldsOf, equal, startsWith}
+use Rattle.text.specs.Writing.{digits, digitsIn}
+use Rattle.controller.specs.Program.{playedText, steps, afterLoad, programText}
 
 -- ---- a node to check on: processes 1 and 2 are started, the behaviours are those that the checks run
 
@@ -155,6 +166,92 @@ table =
     }
     ∷ []
 
+-- ---- P2: the sample of document 01, byte by byte
+
+sample-plan : List ℕ
+sample-plan =
+    (112 ∷ 108 ∷ 97 ∷ 110 ∷ 61 ∷ 49 ∷ 10 ∷ [])  -- plan=1
+    ++ (98 ∷ 101 ∷ 104 ∷ 97 ∷ 118 ∷ 105 ∷ 111 ∷ 117 ∷ 114 ∷ 115 ∷ 61 ∷ 50 ∷ 10 ∷ [])  -- behaviours=2
+    ++ (99 ∷ 111 ∷ 100 ∷ 101 ∷ 61 ∷ 51 ∷ 10 ∷ [])  -- code=3
+    ++ (111 ∷ 112 ∷ 61 ∷ 115 ∷ 101 ∷ 116 ∷ 44 ∷ 48 ∷ 44 ∷ 112 ∷ 50 ∷ 10 ∷ [])  -- op=set,0,p2
+    ++ (111 ∷ 112 ∷ 61 ∷ 115 ∷ 101 ∷ 116 ∷ 44 ∷ 49 ∷ 44 ∷ 105 ∷ 49 ∷ 50 ∷ 10 ∷ [])  -- op=set,1,i12
+    ++ (111 ∷ 112 ∷ 61 ∷ 115 ∷ 101 ∷ 110 ∷ 100 ∷ 44 ∷ 48 ∷ 44 ∷ 49 ∷ 10 ∷ [])  -- op=send,0,1
+    ++ (99 ∷ 111 ∷ 100 ∷ 101 ∷ 61 ∷ 50 ∷ 10 ∷ [])  -- code=2
+    ++ (111 ∷ 112 ∷ 61 ∷ 114 ∷ 101 ∷ 99 ∷ 118 ∷ 44 ∷ 49 ∷ 10 ∷ [])  -- op=recv,1
+    ++ (111 ∷ 112 ∷ 61 ∷ 99 ∷ 108 ∷ 97 ∷ 117 ∷ 115 ∷ 101 ∷ 44 ∷ 105 ∷ 110 ∷ 116 ∷ 44 ∷ 48 ∷ 44 ∷ 49 ∷ 44 ∷ 50 ∷ 10 ∷ [])  -- op=clause,int,0,1,2
+    ++ (115 ∷ 116 ∷ 97 ∷ 114 ∷ 116 ∷ 115 ∷ 61 ∷ 50 ∷ 10 ∷ [])  -- starts=2
+    ++ (115 ∷ 116 ∷ 97 ∷ 114 ∷ 116 ∷ 61 ∷ 49 ∷ 44 ∷ 49 ∷ 10 ∷ [])  -- start=1,1
+    ++ (115 ∷ 116 ∷ 97 ∷ 114 ∷ 116 ∷ 61 ∷ 50 ∷ 44 ∷ 50 ∷ 10 ∷ [])  -- start=2,2
+
+sample-steps : List ℕ
+sample-steps =
+    (114 ∷ 117 ∷ 110 ∷ 61 ∷ 49 ∷ 10 ∷ [])  -- run=1
+    ++ (114 ∷ 117 ∷ 110 ∷ 61 ∷ 49 ∷ 10 ∷ [])  -- run=1
+    ++ (114 ∷ 117 ∷ 110 ∷ 61 ∷ 49 ∷ 10 ∷ [])  -- run=1
+    ++ (97 ∷ 114 ∷ 114 ∷ 105 ∷ 118 ∷ 101 ∷ 61 ∷ 50 ∷ 44 ∷ 49 ∷ 10 ∷ [])  -- arrive=2,1
+    ++ (114 ∷ 117 ∷ 110 ∷ 61 ∷ 50 ∷ 10 ∷ [])  -- run=2
+
+sample-output : List ℕ
+sample-output =
+    (97 ∷ 99 ∷ 99 ∷ 101 ∷ 112 ∷ 116 ∷ 101 ∷ 100 ∷ 61 ∷ 53 ∷ 10 ∷ [])  -- accepted=5
+    ++ (114 ∷ 101 ∷ 102 ∷ 117 ∷ 115 ∷ 101 ∷ 100 ∷ 61 ∷ 48 ∷ 10 ∷ [])  -- refused=0
+    ++ (112 ∷ 114 ∷ 111 ∷ 99 ∷ 101 ∷ 115 ∷ 115 ∷ 61 ∷ 49 ∷ 10 ∷ [])  -- process=1
+    ++ (115 ∷ 116 ∷ 97 ∷ 103 ∷ 101 ∷ 61 ∷ 108 ∷ 105 ∷ 118 ∷ 101 ∷ 10 ∷ [])  -- stage=live
+    ++ (98 ∷ 101 ∷ 104 ∷ 97 ∷ 118 ∷ 105 ∷ 111 ∷ 117 ∷ 114 ∷ 61 ∷ 49 ∷ 10 ∷ [])  -- behaviour=1
+    ++ (112 ∷ 108 ∷ 97 ∷ 99 ∷ 101 ∷ 61 ∷ 51 ∷ 10 ∷ [])  -- place=3
+    ++ (114 ∷ 48 ∷ 61 ∷ 112 ∷ 50 ∷ 10 ∷ [])  -- r0=p2
+    ++ (114 ∷ 49 ∷ 61 ∷ 105 ∷ 49 ∷ 50 ∷ 10 ∷ [])  -- r1=i12
+    ++ (114 ∷ 50 ∷ 61 ∷ 105 ∷ 48 ∷ 10 ∷ [])  -- r2=i0
+    ++ (114 ∷ 51 ∷ 61 ∷ 105 ∷ 48 ∷ 10 ∷ [])  -- r3=i0
+    ++ (116 ∷ 114 ∷ 97 ∷ 112 ∷ 61 ∷ 48 ∷ 10 ∷ [])  -- trap=0
+    ++ (108 ∷ 105 ∷ 110 ∷ 107 ∷ 115 ∷ 61 ∷ 10 ∷ [])  -- links=
+    ++ (109 ∷ 97 ∷ 105 ∷ 108 ∷ 61 ∷ 48 ∷ 10 ∷ [])  -- mail=0
+    ++ (112 ∷ 114 ∷ 111 ∷ 99 ∷ 101 ∷ 115 ∷ 115 ∷ 61 ∷ 50 ∷ 10 ∷ [])  -- process=2
+    ++ (115 ∷ 116 ∷ 97 ∷ 103 ∷ 101 ∷ 61 ∷ 108 ∷ 105 ∷ 118 ∷ 101 ∷ 10 ∷ [])  -- stage=live
+    ++ (98 ∷ 101 ∷ 104 ∷ 97 ∷ 118 ∷ 105 ∷ 111 ∷ 117 ∷ 114 ∷ 61 ∷ 50 ∷ 10 ∷ [])  -- behaviour=2
+    ++ (112 ∷ 108 ∷ 97 ∷ 99 ∷ 101 ∷ 61 ∷ 50 ∷ 10 ∷ [])  -- place=2
+    ++ (114 ∷ 48 ∷ 61 ∷ 105 ∷ 49 ∷ 50 ∷ 10 ∷ [])  -- r0=i12
+    ++ (114 ∷ 49 ∷ 61 ∷ 105 ∷ 48 ∷ 10 ∷ [])  -- r1=i0
+    ++ (114 ∷ 50 ∷ 61 ∷ 105 ∷ 48 ∷ 10 ∷ [])  -- r2=i0
+    ++ (114 ∷ 51 ∷ 61 ∷ 105 ∷ 48 ∷ 10 ∷ [])  -- r3=i0
+    ++ (116 ∷ 114 ∷ 97 ∷ 112 ∷ 61 ∷ 48 ∷ 10 ∷ [])  -- trap=0
+    ++ (108 ∷ 105 ∷ 110 ∷ 107 ∷ 115 ∷ 61 ∷ 10 ∷ [])  -- links=
+    ++ (109 ∷ 97 ∷ 105 ∷ 108 ∷ 61 ∷ 48 ∷ 10 ∷ [])  -- mail=0
+
+node-started : nodeOf samplePlan ≡ started
+unfolding nodeOf samplePlan opWith startWith started sample opOf
+node-started = refl
+
+sample-loaded : loadOf sample-plan ≡ record { number = 0; line = 0; node = started }
+unfolding sample-plan
+sample-loaded = loaded-sample ∙ ap (λ (n : Node). record { number = 0; line = 0; node = n }) node-started
+
+abbrev sampleActions : List Action
+sampleActions = run 1 ∷ run 1 ∷ run 1 ∷ arrive 2 1 ∷ run 2 ∷ []
+
+sample-read : (scheduleOf sample-steps .number ≡ 0) × (steps (scheduleOf sample-steps) ≡ sampleActions)
+unfolding sample-steps actionOf decode meaning scheduleOf ofLines readLines firstMalformed stepsOf refusedText acceptedSteps stepOf arrivalOf packedOf linesOf lastApart lineThen split inFront fieldsOf equal startsWith numberOf numberForm unsignedForm unsigned negative isDigit numberValue decimal rangedOf
+sample-read = (refl, refl)
+
+sample-count : (play started sampleActions .accepted ≡ 5) × (play started sampleActions .refusal ≡ 0)
+unfolding sample started opOf play played step rule ready commit incoming decide at numbered ownerBorn signalWaits pairHasRoom numberFree sound viewSound view behavioursOf code linkSet standing runningSound rowSound receives fits runs runsLive runsOp arrives operand instruction operandInRange inRange hasClauses targetsFree wellPlaced codeSound isNumber fitsInt messages joined without signals oldest pushed popped register withRegister moved advanced linksTo kindsOf
+sample-count = (refl, refl)
+
+-- what is printed of a play whose count, refusal and listing are known
+shown-as : (r : Played) (text : List ℕ) → r .accepted ≡ 5 → r .refusal ≡ 0 → listingOf (r .node) ≡ text → playedText r ≡ (97 ∷ 99 ∷ 99 ∷ 101 ∷ 112 ∷ 116 ∷ 101 ∷ 100 ∷ 61 ∷ 53 ∷ 10 ∷ 114 ∷ 101 ∷ 102 ∷ 117 ∷ 115 ∷ 101 ∷ 100 ∷ 61 ∷ 48 ∷ 10 ∷ []) ++ text
+unfolding playedText numberLine digits digitsIn
+shown-as r text a b c = rw (a, b, c)
+
+pub SampleProgram : Type 0
+SampleProgram = programText sample-plan sample-steps ≡ sample-output
+
+sample-program : SampleProgram
+unfolding SampleProgram programText afterLoad sample-output
+sample-program =
+    let read = sample-read in
+    let count = sample-count in
+    rw (sample-loaded, read .0, read .1) (shown-as (play started sampleActions) _ (count .0) (count .1) sample-listing)
+
 -- P1 no steps: same node, 0 accepted
 pub NoSteps : Type 0
 NoSteps = (n : Node) → Sound n → play n [] ≡ record { accepted = 0; refusal = 0; node = n }
@@ -163,6 +260,6 @@ no-steps : NoSteps
 unfolding NoSteps play played
 no-steps n h = rw h
 
-pub ramp : NoSteps × All table
+pub ramp : NoSteps × SampleProgram × All table
 unfolding All Holds table arrival running refusing plain rower world fives sender spawner unlinkedLinks linkTwo sample started ramp-ops opOf play played step rule ready commit incoming decide at numbered ownerBorn signalWaits pairHasRoom numberFree sound viewSound view behavioursOf code linkSet standing runningSound rowSound receives fits runs runsLive runsOp closes arrives exits operand instruction operandInRange inRange hasClauses targetsFree wellPlaced codeSound isNumber fitsInt messages joined without emptied signals oldest pushed popped register withRegister moved advanced trapped linksTo linked unlinked ended gone kindsOf
-ramp = (no-steps, (refl, (refl, (refl, (refl, (refl, (refl, (refl, (refl, (refl, (refl, (refl, (refl, (refl, (refl, (refl, (refl, (refl, tt))))))))))))))))))
+ramp = (no-steps, sample-program, (refl, (refl, (refl, (refl, (refl, (refl, (refl, (refl, (refl, (refl, (refl, (refl, (refl, (refl, (refl, (refl, (refl, tt))))))))))))))))))
