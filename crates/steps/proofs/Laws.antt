@@ -1,0 +1,52 @@
+-- The laws that carry the walk over a lent slice of steps. Assumes nothing.
+--   play-first   so many steps of a schedule as are enough to refuse it with 32 decide the play
+--   gathered     the first k numbers stand for the first k steps, and so on with the next
+use mathlib.Core.Bool.{Bool, true, false}
+use mathlib.Core.List.{List, [], _∷_, _++_, map}
+use mathlib.Core.Path.{_≡_, refl, sym, _∙_, ap}
+use Prim.Native.Nat.{ℕ, _+_, _≤_, _<_, min}
+use native.Mathlib.Numerals.{add-one}
+use native.Mathlib.Omega.{arith}
+use borrow.Author.Tests.{lt-ltb, ltb-true, ltb-false}
+use lib.Dec.{ltb}
+use lib.ListN.{length, getD, take, set, length-take, length-map}
+use lib.Seq.{take-all, take-suc, take-suc-set}
+use Rattle.node.proofs.Lists.{map-append, map-take}
+use Rattle.node.specs.declared.Node.{Node}
+use Rattle.node.specs.declared.Step.{Step}
+use Rattle.rules.specs.Steps.{Action, Played, meaning, play}
+use Rattle.actions.specs.Numbers.{decode, actionOf}
+
+-- what a read past the slice would give; no read is
+abbrev pub noStep : Step
+noStep = record { kind = 0; owner = record { 0 = 0 }; from = record { 0 = 0 } }
+
+-- how many steps of a schedule are looked at
+abbrev pub enoughOf : {A : Type 0} → List A → ℕ
+enoughOf l = min (length l) 4097
+
+pub play-first : (n : Node) (l : List Action) → play n (take (enoughOf l) l) ≡ play n l
+unfolding play
+play-first n l = go (ltb 4096 (length l)) refl
+  where
+    go : (b : Bool) → ltb 4096 (length l) ≡ b → play n (take (enoughOf l) l) ≡ play n l
+    go true h =
+        let a : 4096 < length (take (enoughOf l) l) = rw (length-take (enoughOf l) l) (omega (arith, ltb-true 4096 (length l) h)) in
+        rw (h, lt-ltb 4096 (length (take (enoughOf l) l)) a)
+    go false h = rw (take-all (enoughOf l) l (omega (arith, ltb-false 4096 (length l) h)))
+
+-- the first k numbers stand for the first k steps
+abbrev pub Gathered : List ℕ → List Step → ℕ → Type 0
+Gathered xs ys k = map actionOf (take k xs) ≡ map meaning (take k ys)
+
+module _ (xs : List ℕ) (ys : List Step) (k : ℕ) where
+  pub gathered-more : (x : ℕ) → k < length xs → k < length ys → decode x ≡ getD ys k noStep → Gathered xs ys k → Gathered (set xs k x) ys (k + 1)
+  unfolding actionOf
+  gathered-more x h g d v =
+      rw (add-one, take-suc-set xs k x h, take-suc ys k noStep g, map-append actionOf (take k xs) (x ∷ []), map-append meaning (take k ys) (getD ys k noStep ∷ []), v, d)
+
+  pub gathered-all : {r : Played} (n : Node) → k ≡ enoughOf ys → Gathered xs ys k → r ≡ play n (map actionOf (take (min k 4097) xs)) → r ≡ play n (map meaning ys)
+  gathered-all n e v s =
+      let z : min k 4097 ≡ k = omega (arith, e) in
+      let w : enoughOf (map meaning ys) ≡ k = rw (length-map ys meaning) (sym e) in
+      s ∙ rw (z, v, map-take meaning k ys) (rw w at (play-first n (map meaning ys)))
