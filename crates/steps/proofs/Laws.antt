@@ -50,3 +50,22 @@ module _ (xs : List ℕ) (ys : List Step) (k : ℕ) where
       let z : min k 4097 ≡ k = omega (arith, e) in
       let w : enoughOf (map meaning ys) ≡ k = rw (length-map ys meaning) (sym e) in
       s ∙ rw (z, v, map-take meaning k ys) (rw w at (play-first n (map meaning ys)))
+
+-- the first k records are the steps that the first k numbers stand for
+abbrev pub Made : List ℕ → List Step → ℕ → Type 0
+Made xs ys k = take k ys ≡ map decode (take k xs)
+
+module _ (xs : List ℕ) (ys : List Step) (k : ℕ) where
+  pub made-more : (y : Step) → k < length xs → k < length ys → y ≡ decode (getD xs k 0) → Made xs ys k → Made xs (set ys k y) (k + 1)
+  made-more y h g d v =
+      rw (add-one, take-suc-set ys k y g, take-suc xs k 0 h, map-append decode (take k xs) (getD xs k 0 ∷ []), v, d)
+
+  meant : (l : List ℕ) → map meaning (map decode l) ≡ map actionOf l
+  unfolding actionOf
+  meant [] = refl
+  meant (x ∷ l) = rw (meant l)
+
+  pub made-all : {r : Played} (n : Node) → k ≡ enoughOf xs → Made xs ys k → r ≡ play n (map meaning (take k ys)) → r ≡ play n (map actionOf xs)
+  made-all n e v s =
+      let w : enoughOf (map actionOf xs) ≡ k = rw (length-map xs actionOf) (sym e) in
+      s ∙ rw (v, meant (take k xs), map-take actionOf k xs) (rw w at (play-first n (map actionOf xs)))

@@ -2,13 +2,14 @@
 ghost use mathlib.Core.List.{map};
 ghost use mathlib.Core.Path.{_≡_};
 ghost use Prim.Native.Nat.{min};
-ghost use lib.ListN.{take};
-ghost use Rattle.actions.specs.Numbers.{actionOf};
+ghost use lib.ListN.{length, take};
+ghost use Rattle.actions.specs.Numbers.{decode, actionOf};
 ghost use Rattle.engine.specs.Answers.{playedOf};
 ghost use Rattle.rules.specs.Steps.{meaning, play};
 use actions::encode;
 use engine::Played;
 use node::Node;
+use node::ProcessNumber;
 use node::Step;
 
 // One more than the most steps of a schedule: so many are enough to be refused with 32.
@@ -46,6 +47,57 @@ fn play_first(n: Node, numbers: [u32; 4097], count: usize) -> Played
     engine::play(n, part)
 }
 
+// Room for the numbers.
 fn zeros() -> [u32; 4097] {
     [0; 4097]
+}
+
+// A schedule, a number for each step, as step records that are lent to `play_steps`. It has plain parameters, so a caller needs no
+// slice of records of its own.
+pub fn play_lent(n: Node, numbers: &[u32]) -> Played
+    ensures { λ r. ⌜ playedOf r ≡ play n (map actionOf (now (numbers .entry))) ⌝ }
+{
+    let top = enough(numbers.len());
+    let steps = decoded(numbers);
+    play_steps(n, &steps[..top])
+}
+
+// The steps that the first of the numbers stand for.
+fn decoded(numbers: &[u32]) -> [Step; 4097]
+    ensures { λ r. ⌜ take (min (length (now (numbers .entry))) 4097) r ≡ map decode (take (min (length (now (numbers .entry))) 4097) (now (numbers .entry))) ⌝ }
+{
+    let top = enough(numbers.len());
+    let mut steps = blanks();
+    let mut k: usize = 0;
+    while k < top {
+        steps[k] = step_of(numbers[k]);
+        k += 1;
+    }
+    steps
+}
+
+// The step that a number stands for.
+fn step_of(number: u32) -> Step
+    ensures { λ r. ⌜ r ≡ decode number ⌝ }
+{
+    let owner = ((number / 256) % 256) as u8;
+    let from = (number % 256) as u8;
+    let kind = number / 65536;
+    if kind < 256 {
+        return Step {
+            kind: kind as u8,
+            owner: ProcessNumber(owner),
+            from: ProcessNumber(from),
+        };
+    }
+    Step {
+        kind: 255,
+        owner: ProcessNumber(owner),
+        from: ProcessNumber(from),
+    }
+}
+
+// Room for the steps.
+fn blanks() -> [Step; 4097] {
+    [step_of(0); 4097]
 }
