@@ -68,10 +68,10 @@ fn decoded(numbers: &[u32]) -> [Step; 4097]
 {
     let top = enough(numbers.len());
     let mut steps = blanks();
-    let mut k: usize = 0;
-    while k < top {
-        steps[k] = step_of(numbers[k]);
-        k += 1;
+    let mut i: usize = 0;
+    while i < top {
+        steps[i] = step_of(numbers[i]);
+        i += 1;
     }
     steps
 }

@@ -9,10 +9,10 @@ use Rattle.steps.proofs.decoded.Statement.{statement}
 use Rattle.steps.proofs.decoded.Tie as tie
 
 abbrev Inv-loop : tie.InvT-loop
-Inv-loop numbers top steps₀ k₀ steps k = (k ≤ enoughOf numbers) × (length steps ≡ 4097) × Made numbers steps k
+Inv-loop numbers top steps₀ i₀ steps i = (i ≤ enoughOf numbers) × (length steps ≡ 4097) × Made numbers steps i
 
 abbrev μ-loop : tie.MeasureT-loop
-μ-loop numbers top steps₀ k₀ steps k = top - k
+μ-loop numbers top steps₀ i₀ steps i = top - i
 
 enough-requires : tie.Need-enough-requires Inv-loop μ-loop
 enough-requires c κs = search needs
@@ -38,8 +38,8 @@ mul-steps c = search needs
 array-set-from-steps : tie.Need-array-set-from-steps Inv-loop μ-loop
 array-set-from-steps c = search needs
 
-add-k : tie.Need-add-k Inv-loop μ-loop
-add-k c = search needs
+add-i : tie.Need-add-i Inv-loop μ-loop
+add-i c = search needs
 
 loop-less : tie.Need-loop-less Inv-loop μ-loop
 loop-less c = search needs
@@ -51,10 +51,10 @@ loop-again c =
     let its-loop = c .before .before .before .loop in
     let its-enough = c .before .before .before .before .before .enough in
     let its-args = c .before .before .before .before .before .before .before .args in
-    let small : its-loop .k < enoughOf (its-args .numbers .now) = rw (its-enough .ensures) at (its-loop-test .taken) in (
+    let small : its-loop .i < enoughOf (its-args .numbers .now) = rw (its-enough .ensures) at (its-loop-test .taken) in (
       omega (arith, small),
-      length-set (its-loop .steps) (its-loop .k) (its-step-of .result) ∙ its-loop .inv .1,
-      made-more (its-args .numbers .now) (its-loop .steps) (its-loop .k) (its-step-of .result) (omega (arith, small)) (omega (arith, small, its-loop .inv .1)) (its-step-of .ensures) (its-loop .inv .2),
+      length-set (its-loop .steps) (its-loop .i) (its-step-of .result) ∙ its-loop .inv .1,
+      made-more (its-args .numbers .now) (its-loop .steps) (its-loop .i) (its-step-of .result) (omega (arith, small)) (omega (arith, small, its-loop .inv .1)) (its-step-of .ensures) (its-loop .inv .2),
     )
 
 returns : tie.Need-returns Inv-loop μ-loop
@@ -63,8 +63,8 @@ returns c =
     let its-loop = c .before .loop in
     let its-enough = c .before .before .before .enough in
     let its-args = c .before .before .before .before .before .args in
-    let past : enoughOf (its-args .numbers .now) ≤ its-loop .k = rw (its-enough .ensures) at (its-loop-test .left) in
-    let all : its-loop .k ≡ enoughOf (its-args .numbers .now) = omega (arith, past, its-loop .inv .0) in
+    let past : enoughOf (its-args .numbers .now) ≤ its-loop .i = rw (its-enough .ensures) at (its-loop-test .left) in
+    let all : its-loop .i ≡ enoughOf (its-args .numbers .now) = omega (arith, past, its-loop .inv .0) in
     rw all at (its-loop .inv .2)
 
 pub decoded-spec : {M : Type 1} → statement M
@@ -81,7 +81,7 @@ decoded-spec =
     step-of-requires
     mul-steps
     array-set-from-steps
-    add-k
+    add-i
     loop-less
     loop-again
     returns)
