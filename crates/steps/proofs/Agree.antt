@@ -7,7 +7,7 @@ use Prim.Native.Nat.{ℕ, _<_}
 use Rattle.node.specs.declared.Node.{Node}
 use Rattle.node.specs.declared.Step.{Step}
 use Rattle.rules.specs.Steps.{meaning, Played, play}
-use Rattle.actions.specs.Numbers.{encode, decode, actionOf}
+use Rattle.actions.specs.Numbers.{encode, actionOf}
 use Rattle.actions.proofs.Decoding.{decode-encode}
 use Rattle.engine.specs.Answers.{playedOf}
 use Rattle.engine.specs.declared.Played.{Played as Answer}

@@ -4,8 +4,8 @@
 --   step-20, play-20                            such a step is refused with 20, and a schedule that begins with it too
 use mathlib.Core.Bool.{Bool, true, false, _&&_}
 use mathlib.Core.List.{List, [], _∷_}
-use mathlib.Core.Path.{_≡_, refl, sym, _∙_, ap}
-use Prim.Native.Nat.{ℕ, _+_, _≤_, _<_}
+use mathlib.Core.Path.{_≡_, refl, _∙_}
+use Prim.Native.Nat.{_<_}
 use native.Mathlib.Decide.{ℕ-discrete}
 use native.Mathlib.Omega.{arith}
 use borrow.Author.Tests.{le-ltb}
@@ -14,7 +14,7 @@ use Rattle.node.specs.declared.Node.{Node}
 use Rattle.node.specs.declared.Step.{Step}
 use Rattle.rules.specs.Answers.{refused}
 use Rattle.rules.specs.Nodes.{Sound}
-use Rattle.rules.specs.Steps.{Action, run, arrive, meaning, numbered, step, Played, played, play}
+use Rattle.rules.specs.Steps.{Action, run, arrive, meaning, numbered, step, played, play}
 use Rattle.rules.specs.Values.{isNumber}
 use Rattle.rules.proofs.Accepted.{step-rule}
 use Rattle.rules.proofs.Paths.{rule-20}

@@ -5,7 +5,7 @@ use mathlib.Core.Bool.{Bool}
 use mathlib.Core.List.{List, [], _∷_, map}
 use mathlib.Core.Logic.{⊎-elim}
 use mathlib.Core.Path.{_≡_, refl, sym, _∙_, ap, subst}
-use mathlib.Core.WellFounded.{WellFounded, InvImage·wf}
+use mathlib.Core.WellFounded.{InvImage·wf}
 use Prim.Native.Nat.{ℕ, _<_, _≤_, _+_, _-_, _*_, _^_, min}
 use native.Mathlib.Nat.{eq-or-lt-of-le}
 use native.Mathlib.Omega.{arith}
@@ -41,7 +41,7 @@ use denote.ArrayMemory.{array-apart, array-whole}
 use denote.Slice.{sliceTy, sliceVal, ShrSlice, Room, slice-vals, shr-slice-tells}
 use denote.Index.{row, place-is, elem-out, elem-back, elem-put, looks-slice, shuts-slice}
 use denote.Signature.{plain}
-use denote.Steps.{nothing, owned, peeks, heard, only}
+use denote.Steps.{nothing, owned, peeks, only}
 use denote.Struct.Laws as LL
 use denote.Triple.Statement.{Contract, Triple}
 use denote.Triple.Call.{calls-at}
@@ -68,7 +68,7 @@ use Rattle.engine.specs.declared.Played.{Played}
 use Rattle.engine.proofs.Played as P
 use Rattle.engine.proofs.Played.Laws as P′
 use Rattle.steps.proofs.Laws.{noStep, enoughOf, Gathered, gathered-more, gathered-all}
-use Rattle.steps.proofs.enough as enough
+use Rattle.steps.proofs.Walks.{hears, Enough, told-enough, to-enough, goes-enough}
 use Rattle.steps.proofs.enough.Symbol as enough-def
 use Rattle.steps.proofs.enough.Symbol.{name as #steps·enough}
 use Rattle.steps.proofs.enough.Met as enough-thm
@@ -109,9 +109,6 @@ record Spot (ys : List Step) : Type 0 where
 
 module _ {M : Type 1} (𝓤 : URA M) (H : Heap 𝓤) (A : Atoms 𝓤) (mem : Memory → SProp 𝓤) (run : Routine → Fun 𝓤) where
   -- the contracts that the proof cites
-  abbrev Enough : Contract 𝓤
-  Enough = tripleOf 𝓤 H A enough.signature (enough.spec 𝓤 H A mem run)
-
   abbrev Zeros : Contract 𝓤
   Zeros = tripleOf 𝓤 H A zeros.signature (zeros.spec 𝓤 H A mem run)
 
@@ -122,9 +119,6 @@ module _ {M : Type 1} (𝓤 : URA M) (H : Heap 𝓤) (A : Atoms 𝓤) (mem : Mem
   PlayFirst = tripleOf 𝓤 H A play-first.signature (play-first.spec 𝓤 H A mem run)
 
   -- what each of them tells of its result
-  told-enough : (c r : ℕ) → ent 𝓤 (ensured 𝓤 H A enough.ended (enough.clauses 𝓤 H A mem run) tt (c, tt) tt r) (fact 𝓤 (r ≡ min c 4097))
-  told-enough c r = exE 𝓤 _ (λ ws. snd∗ 𝓤 (sem 𝓤 H A (lasts enough.ended tt (c, tt) ws)) (fact 𝓤 (r ≡ min c 4097)))
-
   told-encode : (s : Step) (r : ℕ) → ent 𝓤 (ensured 𝓤 H A encoding.ended (encoding.clauses 𝓤 H A mem run) tt (s, tt) tt r) (fact 𝓤 (decode r ≡ s))
   told-encode s r = exE 𝓤 _ (λ ws. via 𝓤 _ (snd∗ 𝓤 (sem 𝓤 H A (lasts encoding.ended tt (s, tt) ws)) _) (snd∗ 𝓤 (fact 𝓤 (r ≡ encode s)) (fact 𝓤 (decode r ≡ s))))
 
@@ -155,12 +149,6 @@ module _ {M : Type 1} (𝓤 : URA M) (H : Heap 𝓤) (A : Atoms 𝓤) (W : Given
       frame ! $ frame ! $ owned ! P.the-row (Is P.the-row) (LL.makes P.the-type P′.the-plain 𝓤 H A) p _ is $ done !
 
   -- each call's ghost value, and that its `requires` is met
-  abbrev to-enough : Enough 𝓤 H A mem run .Ghost
-  to-enough = ((tt, tt, tt, (length ys, tt), (vint w64 (length ys) ∷ [], tt)), tt)
-
-  goes-enough : length ys < 2 ^ 64 → ent 𝓤 (sem 𝓤 H A ftrue) (Enough 𝓤 H A mem run .pre to-enough)
-  goes-enough g = qed W (‵ ftrue ∷ []) ∵ nothing ! $ owned ! usize (Is usize) (uint-makes 𝓤 H A W w64) (length ys) _ (refl, g) $ fjoin ! $ move ! (1 ∷ 0 ∷ []) $ join ! $ frame ! $ done !
-
   abbrev to-zeros : Zeros 𝓤 H A mem run .Ghost
   to-zeros = ((tt, tt, tt, tt, tt), tt)
 
@@ -236,9 +224,7 @@ module _ {M : Type 1} (𝓤 : URA M) (H : Heap 𝓤) (A : Atoms 𝓤) (W : Given
           -- [what steps owns; the token; the locals; that each dies]: the step is handed to `encode`
           nothing ! $ use1 W (raw (Encode 𝓤 H A mem run .pre (to-encode (getD ys (t .k) noStep)))) (goes-encode (getD ys (t .k) noStep) g) $
           calls-at ! (fmOf 𝓤 H (W .laws) 𝓣) (Encode 𝓤 H A mem run) known-encode (to-encode (getD ys (t .k) noStep)) (and-then ! (load ! (from ! (stop !)) (look ! 15 refl)) (no-more !)) (λ v.
-          use1 W (later (some (λ (r : ℕ). (‵ ftrue ⊛ ‵ (u32 .own r (v ∷ []))) ⊛ raw (ensured 𝓤 H A encoding.ended (encoding.clauses 𝓤 H A mem run) tt (getD ys (t .k) noStep, tt) tt r)))) (id⊢ 𝓤 _) $ await ! tt $ pick ! (λ r.
-          split ! $ move ! (1 ∷ []) $ use1 W (raw (fact 𝓤 (decode r ≡ getD ys (t .k) noStep))) (told-encode 𝓤 H A mem run (getD ys (t .k) noStep) r) $ heard ! (decode r ≡ getD ys (t .k) noStep) (λ e. split ! $ drop ! $
-          peeks ! u32 (Is u32) (shows 𝓤 H A u32) r (v ∷ []) (λ is.
+          hears ! tt u32 (told-encode 𝓤 H A mem run (getD ys (t .k) noStep)) v (id⊢ 𝓤 _) (λ r e is.
           land ! (from ! (stop !)) (init ! 12 refl (uint-lawful 𝓤 H A W w32 .typed r _ is .0)) $ drop ! $
           -- [what steps owns; the token; the locals; that each dies]: the number is stored
           assigns ! (bin ! (load ! (from ! (stop !)) (look ! 7 refl)) (lit ! tt) (record { fits = near })) (from ! (stop !)) (init ! 15 refl (tt, record { fits = near })) $
@@ -253,7 +239,7 @@ module _ {M : Type 1} (𝓤 : URA M) (H : Heap 𝓤) (A : Atoms 𝓤) (W : Given
           assigns-last ! (bin ! (load ! (from ! (stop !)) (look ! 7 refl)) (lit ! tt) (record { fits = next })) (from ! (stop !)) (store ! 7 refl (tt, record { fits = next })) $
           forget ! 10 refl $ forget ! 11 refl $ forget ! 12 refl $ forget ! 13 refl $ forget ! 14 refl $ forget ! 15 refl $ forget ! 16 refl $ forget ! 17 refl $
           keep ! (3 ∷ 4 ∷ 5 ∷ 6 ∷ 0 ∷ 7 ∷ 8 ∷ 9 ∷ 10 ∷ 11 ∷ 12 ∷ 13 ∷ 14 ∷ 15 ∷ 16 ∷ 17 ∷ 2 ∷ 1 ∷ 18 ∷ 19 ∷ 20 ∷ 21 ∷ 22 ∷ 23 ∷ 24 ∷ 25 ∷ 26 ∷ 27 ∷ 28 ∷ 29 ∷ 30 ∷ 31 ∷ 32 ∷ 33 ∷ []) $
-          again ! less I t (record { k = t .k + 1; xs = set (t .xs) (t .k) r; size = length-set (t .xs) (t .k) r ∙ t .size; inside = omega (arith, small); same = gathered-more (t .xs) ys (t .k) r room here e (t .same) }) (omega (arith, small)))))))))
+          again ! less I t (record { k = t .k + 1; xs = set (t .xs) (t .k) r; size = length-set (t .xs) (t .k) r ∙ t .size; inside = omega (arith, small); same = gathered-more (t .xs) ys (t .k) r room here e (t .same) }) (omega (arith, small)))))))
 
       -- the turn that leaves the loop, and the rest of the body
       ends : (t : Spot ys) → top ≤ t .k → Sq W (I t) (runs C Λ En body.turn-1 (anyQ (afterTurn 𝓤 H (Below 𝓤 H A less I t) Left)))
@@ -273,15 +259,13 @@ module _ {M : Type 1} (𝓤 : URA M) (H : Heap 𝓤) (A : Atoms 𝓤) (W : Given
           assigns ! (of-opd ! (load ! (from ! (stop !)) (look-raw ! 0 refl))) (from ! (stop !)) (init ! 7 refl (array-typed u32 (uint-lawful 𝓤 H A W w32 .typed) 4097 (t .xs) _ its .0)) $
           nothing ! $ use1 W (raw (PlayFirst 𝓤 H A mem run .pre (to-first (t .xs) (only (array-vals (uint-vals w32) (t .xs)))))) (goes-first isn (t .xs) _ its small) $
           calls-at ! (fmOf 𝓤 H (W .laws) 𝓣) (PlayFirst 𝓤 H A mem run) known-first (to-first (t .xs) (only (array-vals (uint-vals w32) (t .xs)))) (and-then ! (load ! (from ! (stop !)) (look ! 3 refl)) (and-then ! (load ! (from ! (stop !)) (look ! 8 refl)) (and-then ! (load ! (from ! (stop !)) (look ! 5 refl)) (no-more !)))) (λ v.
-          use1 W (later (some (λ (p : Played). (‵ ftrue ⊛ ‵ (P.the-row .own p (v ∷ []))) ⊛ raw (ensured 𝓤 H A play-first.ended (play-first.clauses 𝓤 H A mem run) tt (n, (t .xs, (top, tt))) tt p)))) (id⊢ 𝓤 _) $ await ! tt $ pick ! (λ p.
-          split ! $ move ! (1 ∷ []) $ use1 W (raw (fact 𝓤 (playedOf p ≡ play n (map actionOf (take (min top 4097) (t .xs)))))) (told-first 𝓤 H A mem run n (t .xs) top p) $ heard ! (playedOf p ≡ play n (map actionOf (take (min top 4097) (t .xs)))) (λ e. split ! $ drop ! $
-          peeks ! P.the-row (Is P.the-row) (shows 𝓤 H A P.the-row) p (v ∷ []) (λ is.
+          hears ! tt P.the-row (told-first 𝓤 H A mem run n (t .xs) top) v (id⊢ 𝓤 _) (λ p e is.
           land ! (from ! (stop !)) (init ! 2 refl (LL.lawful P.the-type P′.the-laws 𝓤 H A W .typed p _ is .0)) $ drop ! $
           returns ! (look ! 1 refl) $ forget ! 0 refl $ forget ! 1 refl $ forget ! 2 refl $ forget ! 3 refl $ forget ! 4 refl $ forget ! 5 refl $ forget ! 7 refl $ forget ! 8 refl $
           move ! (1 ∷ 18 ∷ []) $ free1 ! $ move ! (1 ∷ 17 ∷ []) $ free1 ! $ move ! (1 ∷ 16 ∷ []) $ free1 ! $ move ! (1 ∷ 15 ∷ []) $ free1 ! $ move ! (0 ∷ 14 ∷ []) $ free1 ! $ move ! (0 ∷ 13 ∷ []) $ free1 ! $
           move ! (0 ∷ 12 ∷ []) $ free1 ! $ move ! (0 ∷ 11 ∷ []) $ free1 ! $ move ! (0 ∷ 10 ∷ []) $ free1 ! $ move ! (0 ∷ 9 ∷ []) $ free1 ! $ move ! (0 ∷ 8 ∷ []) $ free1 ! $ move ! (0 ∷ 7 ∷ []) $ free1 ! $
           move ! (0 ∷ 6 ∷ []) $ free1 ! $ move ! (0 ∷ 5 ∷ []) $ free1 ! $ move ! (0 ∷ 4 ∷ []) $ free1 ! $ move ! (0 ∷ 3 ∷ []) $ free1 ! $ free0 ! $
-          by ! (exits isn p v is (gathered-all (t .xs) ys (t .k) n all (t .same) (subst (λ (k : ℕ). playedOf p ≡ play n (map actionOf (take (min k 4097) (t .xs)))) (sym all) e)))))))))
+          by ! (exits isn p v is (gathered-all (t .xs) ys (t .k) n all (t .same) (subst (λ (k : ℕ). playedOf p ≡ play n (map actionOf (take (min k 4097) (t .xs)))) (sym all) e)))))))
 
       turn : (t : Spot ys) → Sq W (I t) (runs C Λ En body.turn-1 (anyQ (afterTurn 𝓤 H (Below 𝓤 H A less I t) Left)))
       turn t = ⊎-elim (λ all. ends t (omega arith)) (λ small. more t small) (eq-or-lt-of-le (t .inside))
@@ -297,11 +281,9 @@ module _ {M : Type 1} (𝓤 : URA M) (H : Heap 𝓤) (A : Atoms 𝓤) (W : Given
         -- [_15; that it dies; ..; _0; that it dies; the token; what the parameters own]
         pass1 ! (init ! 28 refl (LL.lawful N.the-type N′.the-laws 𝓤 H A W .typed n _ isn .0)) $ pass1 ! (init ! 26 refl (tt, (tt, (record { fits = gn .0 }, tt)))) $ pass0 ! $
         assigns ! (of-opd ! (load ! (from ! (fld ! refl (stop !))) (look-in ! 26 (sub ! 1 refl (whole !))))) (from ! (stop !)) (init ! 18 refl (tt, record { fits = gn .0 })) $
-        nothing ! $ use1 W (raw (Enough 𝓤 H A mem run .pre to-enough)) (goes-enough (gn .0)) $
-        calls-at ! (fmOf 𝓤 H (W .laws) 𝓣) (Enough 𝓤 H A mem run) known-enough to-enough (and-then ! (load ! (from ! (stop !)) (look ! 19 refl)) (no-more !)) (λ u.
-        use1 W (later (some (λ (r : ℕ). (‵ ftrue ⊛ ‵ (usize .own r (u ∷ []))) ⊛ raw (ensured 𝓤 H A enough.ended (enough.clauses 𝓤 H A mem run) tt (length ys, tt) tt r)))) (id⊢ 𝓤 _) $ await ! tt $ pick ! (λ m.
-        split ! $ move ! (1 ∷ []) $ use1 W (raw (fact 𝓤 (m ≡ top))) (told-enough 𝓤 H A mem run (length ys) m) $ heard ! (m ≡ top) (λ most. split ! $ drop ! $
-        peeks ! usize (Is usize) (shows 𝓤 H A usize) m (u ∷ []) (λ ism.
+        nothing ! $ use1 W (raw (Enough 𝓤 H A mem run .pre (to-enough 𝓤 H A mem run (length ys)))) (goes-enough 𝓤 H A mem run W (length ys) (gn .0)) $
+        calls-at ! (fmOf 𝓤 H (W .laws) 𝓣) (Enough 𝓤 H A mem run) known-enough (to-enough 𝓤 H A mem run (length ys)) (and-then ! (load ! (from ! (stop !)) (look ! 19 refl)) (no-more !)) (λ u.
+        hears ! tt usize (told-enough 𝓤 H A mem run (length ys)) u (id⊢ 𝓤 _) (λ m most ism.
         land ! (from ! (stop !)) (init ! 25 refl (uint-lawful 𝓤 H A W w64 .typed m _ ism .0)) $ drop ! $
         rewrite ! 24 (λ (w : Val). ‵ (fat fullShare (tyInt w64) l₃ 0 w)) (ap only (uint-tells w64 m (u ∷ []) ism) ∙ ap (vint w64) most) refl $
         nothing ! $ use1 W (raw (Zeros 𝓤 H A mem run .pre to-zeros)) goes-zeros $
@@ -321,7 +303,7 @@ module _ {M : Type 1} (𝓤 : URA M) (H : Heap 𝓤) (A : Atoms 𝓤) (W : Given
         move ! (33 ∷ []) $ fsplit ! $ drop ! $ fsplit ! $ move ! (34 ∷ []) $ split ! $
         -- [the token; true; what steps owns; true; the numbers; _15; ..; _5; ..; (that _4 dies); _3; ..; _0; that it dies]
         keep ! (34 ∷ 32 ∷ 30 ∷ 28 ∷ 4 ∷ 25 ∷ 23 ∷ 21 ∷ 19 ∷ 17 ∷ 15 ∷ 13 ∷ 11 ∷ 9 ∷ 7 ∷ 5 ∷ 0 ∷ 2 ∷ 35 ∷ 33 ∷ 31 ∷ 29 ∷ 27 ∷ 26 ∷ 24 ∷ 22 ∷ 20 ∷ 18 ∷ 16 ∷ 14 ∷ 12 ∷ 10 ∷ 8 ∷ 6 ∷ []) $
-        rounds l₀ l₁ l₂ l₃ l₄ l₅ l₆ l₇ l₈ l₉ l₁₀ l₁₁ l₁₂ l₁₃ l₁₄ l₁₅ (record { k = 0; xs = xs; size = size; inside = omega arith; same = refl })))))))))))))))))))))))))
+        rounds l₀ l₁ l₂ l₃ l₄ l₅ l₆ l₇ l₈ l₉ l₁₀ l₁₁ l₁₂ l₁₃ l₁₄ l₁₅ (record { k = 0; xs = xs; size = size; inside = omega arith; same = refl })))))))))))))))))))))))
 
 module _ {M : Type 1} (𝓤 : URA M) (H : Heap 𝓤) (A : Atoms 𝓤) (W : Given 𝓤 H A) (mem : Memory → SProp 𝓤) (run : Routine → Fun 𝓤) (𝓣 : Tables 𝓤 H) (known-enough : Triple 𝓤 (𝓣 .C #steps·enough) (Enough 𝓤 H A mem run)) (known-zeros : Triple 𝓤 (𝓣 .C #steps·zeros) (Zeros 𝓤 H A mem run))
     (known-encode : Triple 𝓤 (𝓣 .C #actions·encode) (Encode 𝓤 H A mem run)) (known-first : Triple 𝓤 (𝓣 .C #steps·play-first) (PlayFirst 𝓤 H A mem run)) where

@@ -1,6 +1,6 @@
 -- `step_of` computes the step that a number stands for. Assumes nothing.
 use mathlib.Core.Path.{_≡_}
-use Prim.Native.Nat.{_/_, _≤_, min}
+use Prim.Native.Nat.{_/_, min}
 use native.Mathlib.Omega.{arith}
 use borrow.Author.Needs.{needs}
 use Rattle.actions.specs.Numbers.{decode}
