@@ -1,10 +1,11 @@
--- The laws that carry the walk over a lent slice of steps. Assumes nothing.
---   play-first   so many steps of a schedule as are enough to refuse it with 32 decide the play
---   gathered     the first k numbers stand for the first k steps, and so on with the next
+-- The laws that carry the two loops and the two walks. Assumes nothing.
+--   play-first                    the steps that are looked at decide the play
+--   gathered-more, gathered-all   numbers stored for steps: one more, and all that are looked at
+--   made-more, made-all           records stored for numbers: one more, and all that are looked at
 use mathlib.Core.Bool.{Bool, true, false}
 use mathlib.Core.List.{List, [], _∷_, map}
 use mathlib.Core.Path.{_≡_, refl, sym, _∙_}
-use Prim.Native.Nat.{ℕ, _+_, _<_, min}
+use Prim.Native.Nat.{ℕ, _+_, _<_}
 use native.Mathlib.Numerals.{add-one}
 use native.Mathlib.Omega.{arith}
 use borrow.Author.Tests.{lt-ltb, ltb-true, ltb-false}
@@ -16,24 +17,25 @@ use Rattle.node.specs.declared.Node.{Node}
 use Rattle.node.specs.declared.Step.{Step}
 use Rattle.rules.specs.Steps.{Action, Played, meaning, play}
 use Rattle.actions.specs.Numbers.{decode, actionOf}
+use Rattle.steps.specs.Enough.{enoughOf}
 
 -- what a read past the slice would give; no read is
 abbrev pub noStep : Step
 noStep = record { kind = 0; owner = record { 0 = 0 }; from = record { 0 = 0 } }
 
--- how many steps of a schedule are looked at
-abbrev pub enoughOf : {A : Type 0} → List A → ℕ
-enoughOf l = min (length l) 4097
+-- how many elements of a list are looked at
+abbrev pub enoughIn : {A : Type 0} → List A → ℕ
+enoughIn l = enoughOf (length l)
 
-pub play-first : (n : Node) (l : List Action) → play n (take (enoughOf l) l) ≡ play n l
+pub play-first : (n : Node) (l : List Action) → play n (take (enoughIn l) l) ≡ play n l
 unfolding play
 play-first n l = go (ltb 4096 (length l)) refl
   where
-    go : (b : Bool) → ltb 4096 (length l) ≡ b → play n (take (enoughOf l) l) ≡ play n l
+    go : (b : Bool) → ltb 4096 (length l) ≡ b → play n (take (enoughIn l) l) ≡ play n l
     go true h =
-        let a : 4096 < length (take (enoughOf l) l) = rw (length-take (enoughOf l) l) (omega (arith, ltb-true 4096 (length l) h)) in
-        rw (h, lt-ltb 4096 (length (take (enoughOf l) l)) a)
-    go false h = rw (take-all (enoughOf l) l (omega (arith, ltb-false 4096 (length l) h)))
+        let a : 4096 < length (take (enoughIn l) l) = rw (length-take (enoughIn l) l) (omega (arith, ltb-true 4096 (length l) h)) in
+        rw (h, lt-ltb 4096 (length (take (enoughIn l) l)) a)
+    go false h = rw (take-all (enoughIn l) l (omega (arith, ltb-false 4096 (length l) h)))
 
 -- the first k numbers stand for the first k steps
 abbrev pub Gathered : List ℕ → List Step → ℕ → Type 0
@@ -45,11 +47,16 @@ module _ (xs : List ℕ) (ys : List Step) (k : ℕ) where
   gathered-more x h g d v =
       rw (add-one, take-suc-set xs k x h, take-suc ys k noStep g, map-append actionOf (take k xs) (x ∷ []), map-append meaning (take k ys) (getD ys k noStep ∷ []), v, d)
 
-  pub gathered-all : {r : Played} (n : Node) → k ≡ enoughOf ys → Gathered xs ys k → r ≡ play n (map actionOf (take (min k 4097) xs)) → r ≡ play n (map meaning ys)
+  pub gathered-all : {r : Played} (n : Node) → k ≡ enoughIn ys → Gathered xs ys k → r ≡ play n (map actionOf (take (enoughOf k) xs)) → r ≡ play n (map meaning ys)
   gathered-all n e v s =
-      let z : min k 4097 ≡ k = omega (arith, e) in
-      let w : enoughOf (map meaning ys) ≡ k = rw (length-map ys meaning) (sym e) in
+      let z : enoughOf k ≡ k = omega (arith, e) in
+      let w : enoughIn (map meaning ys) ≡ k = rw (length-map ys meaning) (sym e) in
       s ∙ rw (z, v, map-take meaning k ys) (rw w at (play-first n (map meaning ys)))
+
+meant : (l : List ℕ) → map meaning (map decode l) ≡ map actionOf l
+unfolding actionOf
+meant [] = refl
+meant (x ∷ l) = rw (meant l)
 
 -- the first k records are the steps that the first k numbers stand for
 abbrev pub Made : List ℕ → List Step → ℕ → Type 0
@@ -60,12 +67,7 @@ module _ (xs : List ℕ) (ys : List Step) (k : ℕ) where
   made-more y h g d v =
       rw (add-one, take-suc-set ys k y g, take-suc xs k 0 h, map-append decode (take k xs) (getD xs k 0 ∷ []), v, d)
 
-  meant : (l : List ℕ) → map meaning (map decode l) ≡ map actionOf l
-  unfolding actionOf
-  meant [] = refl
-  meant (x ∷ l) = rw (meant l)
-
-  pub made-all : {r : Played} (n : Node) → k ≡ enoughOf xs → Made xs ys k → r ≡ play n (map meaning (take k ys)) → r ≡ play n (map actionOf xs)
+  pub made-all : {r : Played} (n : Node) → k ≡ enoughIn xs → Made xs ys k → r ≡ play n (map meaning (take k ys)) → r ≡ play n (map actionOf xs)
   made-all n e v s =
-      let w : enoughOf (map actionOf xs) ≡ k = rw (length-map xs actionOf) (sym e) in
+      let w : enoughIn (map actionOf xs) ≡ k = rw (length-map xs actionOf) (sym e) in
       s ∙ rw (v, meant (take k xs), map-take actionOf k xs) (rw w at (play-first n (map actionOf xs)))

@@ -4,12 +4,13 @@ use Prim.Native.Nat.{_-_, _≤_, _<_}
 use native.Mathlib.Omega.{arith}
 use borrow.Author.Needs.{needs}
 use lib.ListN.{length, length-set}
-use Rattle.steps.proofs.Laws.{enoughOf, Made, made-more}
+use Rattle.steps.specs.Enough.{most}
+use Rattle.steps.proofs.Laws.{enoughIn, Made, made-more}
 use Rattle.steps.proofs.decoded.Statement.{statement}
 use Rattle.steps.proofs.decoded.Tie as tie
 
 abbrev Inv-loop : tie.InvT-loop
-Inv-loop numbers top steps₀ i₀ steps i = (i ≤ enoughOf numbers) × (length steps ≡ 4097) × Made numbers steps i
+Inv-loop numbers top steps₀ i₀ steps i = (i ≤ enoughIn numbers) × (length steps ≡ most) × Made numbers steps i
 
 abbrev μ-loop : tie.MeasureT-loop
 μ-loop numbers top steps₀ i₀ steps i = top - i
@@ -51,7 +52,7 @@ loop-again c =
     let its-loop = c .before .before .before .loop in
     let its-enough = c .before .before .before .before .before .enough in
     let its-args = c .before .before .before .before .before .before .before .args in
-    let small : its-loop .i < enoughOf (its-args .numbers .now) = rw (its-enough .ensures) at (its-loop-test .taken) in (
+    let small : its-loop .i < enoughIn (its-args .numbers .now) = rw (its-enough .ensures) at (its-loop-test .taken) in (
       omega (arith, small),
       length-set (its-loop .steps) (its-loop .i) (its-step-of .result) ∙ its-loop .inv .1,
       made-more (its-args .numbers .now) (its-loop .steps) (its-loop .i) (its-step-of .result) (omega (arith, small)) (omega (arith, small, its-loop .inv .1)) (its-step-of .ensures) (its-loop .inv .2),
@@ -63,8 +64,8 @@ returns c =
     let its-loop = c .before .loop in
     let its-enough = c .before .before .before .enough in
     let its-args = c .before .before .before .before .before .args in
-    let past : enoughOf (its-args .numbers .now) ≤ its-loop .i = rw (its-enough .ensures) at (its-loop-test .left) in
-    let all : its-loop .i ≡ enoughOf (its-args .numbers .now) = omega (arith, past, its-loop .inv .0) in
+    let past : enoughIn (its-args .numbers .now) ≤ its-loop .i = rw (its-enough .ensures) at (its-loop-test .left) in
+    let all : its-loop .i ≡ enoughIn (its-args .numbers .now) = omega (arith, past, its-loop .inv .0) in
     rw all at (its-loop .inv .2)
 
 pub decoded-spec : {M : Type 1} → statement M

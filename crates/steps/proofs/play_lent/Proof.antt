@@ -62,7 +62,8 @@ use Rattle.engine.specs.Answers.{playedOf}
 use Rattle.engine.specs.declared.Played.{Played}
 use Rattle.engine.proofs.Played as P
 use Rattle.engine.proofs.Played.Laws as P′
-use Rattle.steps.proofs.Laws.{enoughOf, Made, made-all}
+use Rattle.steps.specs.Enough.{most}
+use Rattle.steps.proofs.Laws.{enoughIn, Made, made-all}
 use Rattle.steps.proofs.Walks.{hears, hears-kept, Enough, told-enough, to-enough, goes-enough}
 use Rattle.steps.proofs.enough.Symbol as enough-def
 use Rattle.steps.proofs.enough.Symbol.{name as #steps·enough}
@@ -82,10 +83,10 @@ use Rattle.steps.proofs.play_lent.Code as code
 
 -- the array of records
 abbrev Steps : RattleType
-Steps = Array S.the-row 4097
+Steps = Array S.the-row most
 
 abbrev stepsTy : Ty
-stepsTy = tyArray S′.mir 4097
+stepsTy = tyArray S′.mir most
 
 abbrev stayed : Stays (play-lent.ended .signature .params) (play-lent.ended .kept)
 stayed = (stay-none (λ _. N.the-row) yes, (stay-none-slice (0 ∷ []) tt (plain (λ _. u32)) yes, tt))
@@ -99,8 +100,8 @@ module _ {M : Type 1} (𝓤 : URA M) (H : Heap 𝓤) (A : Atoms 𝓤) (mem : Mem
   PlaySteps = tripleOf 𝓤 H A play-steps.signature (play-steps.spec 𝓤 H A mem run)
 
   -- what each of them tells of its result
-  told-decoded : (κ : Lft) (s : RefT (List ℕ)) (r : List Step) → ent 𝓤 (ensured 𝓤 H A decoded.ended (decoded.clauses 𝓤 H A mem run) (κ, tt) (s, tt) tt r) (fact 𝓤 (Made (s .now) r (enoughOf (s .now))))
-  told-decoded κ s r = exE 𝓤 _ (λ ws. snd∗ 𝓤 (sem 𝓤 H A (lasts decoded.ended (κ, tt) (s, tt) ws)) (fact 𝓤 (Made (s .now) r (enoughOf (s .now)))))
+  told-decoded : (κ : Lft) (s : RefT (List ℕ)) (r : List Step) → ent 𝓤 (ensured 𝓤 H A decoded.ended (decoded.clauses 𝓤 H A mem run) (κ, tt) (s, tt) tt r) (fact 𝓤 (Made (s .now) r (enoughIn (s .now))))
+  told-decoded κ s r = exE 𝓤 _ (λ ws. snd∗ 𝓤 (sem 𝓤 H A (lasts decoded.ended (κ, tt) (s, tt) ws)) (fact 𝓤 (Made (s .now) r (enoughIn (s .now)))))
 
   told-steps : (κ : Lft) (n : Node) (s : RefT (List Step)) (r : Played) → ent 𝓤 (ensured 𝓤 H A play-steps.ended (play-steps.clauses 𝓤 H A mem run) (κ, tt) (n, (s, tt)) tt r) (fact 𝓤 (playedOf r ≡ play n (map meaning (s .now))))
   told-steps κ n s r = exE 𝓤 _ (λ ws. snd∗ 𝓤 (sem 𝓤 H A (lasts play-steps.ended (κ, tt) (n, (s, tt)) ws)) (fact 𝓤 (playedOf r ≡ play n (map meaning (s .now)))))
@@ -113,7 +114,7 @@ module _ {M : Type 1} (𝓤 : URA M) (H : Heap 𝓤) (A : Atoms 𝓤) (W : Given
   at = (vn ∷ [], (sliceVal (b, o) (length xs) ∷ [], tt))
 
   abbrev top : ℕ
-  top = enoughOf xs
+  top = enoughIn xs
 
   abbrev Post : Val → SProp 𝓤
   Post = walkOf 𝓤 H A play-lent.ended stayed (play-lent.clauses 𝓤 H A mem run) .post (((κ, tt), (q, tt), tt, (n, (numbers, tt)), at), tt)
@@ -163,22 +164,22 @@ module _ {M : Type 1} (𝓤 : URA M) (H : Heap 𝓤) (A : Atoms 𝓤) (W : Given
         assigns ! (of-opd ! (load ! (from ! (fld ! refl (stop !))) (look-in ! 12 (sub ! 1 refl (whole !))))) (from ! (stop !)) (init ! 6 refl (tt, record { fits = gn .0 })) $
         nothing ! $ use1 W (raw (Enough 𝓤 H A mem run .pre (to-enough 𝓤 H A mem run (length xs)))) (goes-enough 𝓤 H A mem run W (length xs) (gn .0)) $
         calls-at ! (fmOf 𝓤 H (W .laws) 𝓣) (Enough 𝓤 H A mem run) known-enough (to-enough 𝓤 H A mem run (length xs)) (and-then ! (load ! (from ! (stop !)) (look ! 7 refl)) (no-more !)) (λ u.
-        hears ! tt usize (told-enough 𝓤 H A mem run (length xs)) u (id⊢ 𝓤 _) (λ m most ism.
+        hears ! tt usize (told-enough 𝓤 H A mem run (length xs)) u (id⊢ 𝓤 _) (λ m all ism.
         land ! (from ! (stop !)) (init ! 11 refl (uint-lawful 𝓤 H A W w64 .typed m _ ism .0)) $ drop ! $
-        rewrite ! 10 (λ (w : Val). ‵ (fat fullShare (tyInt w64) l₃ 0 w)) (ap only (uint-tells w64 m (u ∷ []) ism) ∙ ap (vint w64) most) refl $
+        rewrite ! 10 (λ (w : Val). ‵ (fat fullShare (tyInt w64) l₃ 0 w)) (ap only (uint-tells w64 m (u ∷ []) ism) ∙ ap (vint w64) all) refl $
         -- the numbers are passed on, and kept for the exit
         move ! (19 ∷ []) $ fsplit ! $ drop ! $ fsplit ! $ use1 W (Own ⊛ Own) (shr-slice-copy 𝓤 H A W (named 0) κ u32 .twice numbers _) $ split ! $ move ! (2 ∷ []) $ drop ! $ move ! (20 ∷ []) $ split ! $ move ! (1 ∷ []) $ drop ! $
         use2 W (raw (Decoded 𝓤 H A mem run .pre to-decoded)) goes-decoded $
         -- [the call's `pre`; what numbers owns; _8; ..; _0; that it dies]
         calls-at ! (fmOf 𝓤 H (W .laws) 𝓣) (Decoded 𝓤 H A mem run) known-decoded to-decoded (and-then ! (load ! (from ! (stop !)) (look ! 14 refl)) (no-more !)) (λ v.
         hears-kept ! tt Steps (‵ (flft κ q) ⊛ ‵ ftrue) (told-decoded 𝓤 H A mem run κ numbers) v (id⊢ 𝓤 _) (λ ys made is. move ! (1 ∷ []) $ split ! $ move ! (1 ∷ []) $ drop ! $ move ! (1 ∷ []) $
-        let typed = array-typed S.the-row (LL.lawful S.the-type S′.the-laws 𝓤 H A W .typed) 4097 ys (v ∷ []) is .0 in
+        let typed = array-typed S.the-row (LL.lawful S.the-type S′.the-laws 𝓤 H A W .typed) most ys (v ∷ []) is .0 in
         -- [what the records own; the token; what numbers owns; _8; ..; _0; that it dies]
         land ! (from ! (stop !)) (init ! 7 refl typed) $ assigns ! (of-opd ! (load ! (from ! (stop !)) (look ! 7 refl))) (from ! (stop !)) (init ! 11 refl typed) $
         -- the array is taken apart into its elements
         move ! (11 ∷ []) $ use1 W (‵ (fat fullShare (rawTy stepsTy) l₄ 0 v)) (W .laws .at-raw fullShare stepsTy l₄ 0 v) $ move ! (0 ∷ 1 ∷ []) $ fjoin ! $
         fpack ! (List Val) (λ vs. fsep (cellAt fullShare (Steps .mir) vs l₄ 0) (Steps .own ys vs)) (v ∷ []) $
-        use1 W (‵ (arr-parts (shares S.the-row) 4097 .part fullShare ys l₄ 0)) (array-apart 𝓤 H A W S.the-row fullShare tt 4097 ys l₄ 0) $ fsplit ! $ feqL ! (λ size.
+        use1 W (‵ (arr-parts (shares S.the-row) most .part fullShare ys l₄ 0)) (array-apart 𝓤 H A W S.the-row fullShare tt most ys l₄ 0) $ fsplit ! $ feqL ! (λ size.
         -- [the records; the token; what numbers owns; _8; ..; (that _4 dies); ..; _0; that it dies]
         let count : length (take top ys) ≡ top = length-take-le top ys (omega (arith, size)) in
         let few : length (take top ys) < 2 ^ 64 = omega (arith, count) in
@@ -201,9 +202,9 @@ module _ {M : Type 1} (𝓤 : URA M) (H : Heap 𝓤) (A : Atoms 𝓤) (W : Given
         -- the lifetime is over, and the records are one array again
         lft-end ! tt $ move ! (0 ∷ 2 ∷ []) $ lent-back ! tt $ fsplit ! $ drop ! $ use1 W (‵ (cells (memOf S.the-row) (take top ys) l₄ 0)) (whole-in 𝓤 H A W S.the-row (take top ys) l₄ 0) $ move ! (0 ∷ 2 ∷ []) $
         use2 W (‵ (cells (memOf S.the-row) (take top ys ++ dropL top ys) l₄ 0)) (join-app 𝓤 H A (memOf S.the-row) (take top ys) (dropL top ys) l₄ 0) $ rewrite ! 0 (λ (zs : List Step). ‵ (cells (memOf S.the-row) zs l₄ 0)) (take-append-drop top ys) refl $
-        use1 W (‵ (row S.the-row fullShare ys l₄ 0)) (whole-out 𝓤 H A W S.the-row ys l₄ 0) $ feqI ! ℕ (length ys) 4097 size $ fjoin ! $ use1 W (‵ (partAt Steps fullShare ys l₄ 0)) (array-whole 𝓤 H A W S.the-row fullShare 4097 ys l₄ 0) $
+        use1 W (‵ (row S.the-row fullShare ys l₄ 0)) (whole-out 𝓤 H A W S.the-row ys l₄ 0) $ feqI ! ℕ (length ys) most size $ fjoin ! $ use1 W (‵ (partAt Steps fullShare ys l₄ 0)) (array-whole 𝓤 H A W S.the-row fullShare most ys l₄ 0) $
         fpick ! (λ vs. fsplit ! $ move ! (1 ∷ []) $ peeks ! Steps (Is Steps) (shows 𝓤 H A Steps) ys vs (λ r. drop ! $
-        rewrite ! 0 (λ (us : List Val). ‵ (cellAt fullShare (Steps .mir) us l₄ 0)) (array-tells S.the-row (LL.vals S.the-type S′.the-laws) (LL.tells S.the-type S′.the-laws) 4097 ys vs r) refl $
+        rewrite ! 0 (λ (us : List Val). ‵ (cellAt fullShare (Steps .mir) us l₄ 0)) (array-tells S.the-row (LL.vals S.the-type S′.the-laws) (LL.tells S.the-type S′.the-laws) most ys vs r) refl $
         use1 W (‵ (fat fullShare stepsTy l₄ 0 (only (array-vals (LL.vals S.the-type S′.the-laws) ys)))) (W .laws .raw-at fullShare stepsTy l₄ 0 _) $
         -- [_4; true; the token; what numbers owns; _8; that it dies; ..; (that _4 dies); ..; _0; that it dies]
         returns ! (look ! 19 refl) $ forget ! 0 refl $ forget ! 4 refl $ forget ! 6 refl $ forget ! 8 refl $ forget ! 10 refl $ forget ! 13 refl $ forget ! 15 refl $ forget ! 17 refl $ forget ! 19 refl $

@@ -6,7 +6,7 @@ use mathlib.Core.List.{List, [], _∷_, map}
 use mathlib.Core.Logic.{⊎-elim}
 use mathlib.Core.Path.{_≡_, refl, sym, _∙_, ap, subst}
 use mathlib.Core.WellFounded.{InvImage·wf}
-use Prim.Native.Nat.{ℕ, _<_, _≤_, _+_, _-_, _*_, _^_, min}
+use Prim.Native.Nat.{ℕ, _<_, _≤_, _+_, _-_, _*_, _^_}
 use native.Mathlib.Nat.{eq-or-lt-of-le}
 use native.Mathlib.Omega.{arith}
 use lib.Dec.{lit<}
@@ -67,7 +67,8 @@ use Rattle.engine.specs.Answers.{playedOf}
 use Rattle.engine.specs.declared.Played.{Played}
 use Rattle.engine.proofs.Played as P
 use Rattle.engine.proofs.Played.Laws as P′
-use Rattle.steps.proofs.Laws.{noStep, enoughOf, Gathered, gathered-more, gathered-all}
+use Rattle.steps.specs.Enough.{most, enoughOf}
+use Rattle.steps.proofs.Laws.{noStep, enoughIn, Gathered, gathered-more, gathered-all}
 use Rattle.steps.proofs.Walks.{hears, Enough, told-enough, to-enough, goes-enough}
 use Rattle.steps.proofs.enough.Symbol as enough-def
 use Rattle.steps.proofs.enough.Symbol.{name as #steps·enough}
@@ -91,10 +92,10 @@ Arg = Node × (RefT (List Step) × Unit {0})
 
 -- the array of numbers
 abbrev Numbers : RattleType
-Numbers = Array u32 4097
+Numbers = Array u32 most
 
 abbrev numbersTy : Ty
-numbersTy = tyArray (tyInt w32) 4097
+numbersTy = tyArray (tyInt w32) most
 
 abbrev stayed : Stays (play-steps.ended .signature .params) (play-steps.ended .kept)
 stayed = (stay-none (λ _. N.the-row) yes, (stay-none-slice (0 ∷ []) tt (plain (λ _. S.the-row)) yes, tt))
@@ -103,8 +104,8 @@ stayed = (stay-none (λ _. N.the-row) yes, (stay-none-slice (0 ∷ []) tt (plain
 record Spot (ys : List Step) : Type 0 where
   k : ℕ
   xs : List ℕ
-  size : length xs ≡ 4097
-  inside : k ≤ enoughOf ys
+  size : length xs ≡ most
+  inside : k ≤ enoughIn ys
   same : Gathered xs ys k
 
 module _ {M : Type 1} (𝓤 : URA M) (H : Heap 𝓤) (A : Atoms 𝓤) (mem : Memory → SProp 𝓤) (run : Routine → Fun 𝓤) where
@@ -122,8 +123,8 @@ module _ {M : Type 1} (𝓤 : URA M) (H : Heap 𝓤) (A : Atoms 𝓤) (mem : Mem
   told-encode : (s : Step) (r : ℕ) → ent 𝓤 (ensured 𝓤 H A encoding.ended (encoding.clauses 𝓤 H A mem run) tt (s, tt) tt r) (fact 𝓤 (decode r ≡ s))
   told-encode s r = exE 𝓤 _ (λ ws. via 𝓤 _ (snd∗ 𝓤 (sem 𝓤 H A (lasts encoding.ended tt (s, tt) ws)) _) (snd∗ 𝓤 (fact 𝓤 (r ≡ encode s)) (fact 𝓤 (decode r ≡ s))))
 
-  told-first : (n : Node) (xs : List ℕ) (c : ℕ) (r : Played) → ent 𝓤 (ensured 𝓤 H A play-first.ended (play-first.clauses 𝓤 H A mem run) tt (n, (xs, (c, tt))) tt r) (fact 𝓤 (playedOf r ≡ play n (map actionOf (take (min c 4097) xs))))
-  told-first n xs c r = exE 𝓤 _ (λ ws. snd∗ 𝓤 (sem 𝓤 H A (lasts play-first.ended tt (n, (xs, (c, tt))) ws)) (fact 𝓤 (playedOf r ≡ play n (map actionOf (take (min c 4097) xs)))))
+  told-first : (n : Node) (xs : List ℕ) (c : ℕ) (r : Played) → ent 𝓤 (ensured 𝓤 H A play-first.ended (play-first.clauses 𝓤 H A mem run) tt (n, (xs, (c, tt))) tt r) (fact 𝓤 (playedOf r ≡ play n (map actionOf (take (enoughOf c) xs))))
+  told-first n xs c r = exE 𝓤 _ (λ ws. snd∗ 𝓤 (sem 𝓤 H A (lasts play-first.ended tt (n, (xs, (c, tt))) ws)) (fact 𝓤 (playedOf r ≡ play n (map actionOf (take (enoughOf c) xs)))))
 
 module _ {M : Type 1} (𝓤 : URA M) (H : Heap 𝓤) (A : Atoms 𝓤) (W : Given 𝓤 H A) (mem : Memory → SProp 𝓤) (run : Routine → Fun 𝓤) (κ : Lft) (q : Share) (n : Node) (vn : Val) (b o : ℕ) (γ : GName) (ys : List Step) where
   abbrev x : Arg
@@ -133,7 +134,7 @@ module _ {M : Type 1} (𝓤 : URA M) (H : Heap 𝓤) (A : Atoms 𝓤) (W : Given
   at = (vn ∷ [], (sliceVal (b, o) (length ys) ∷ [], tt))
 
   abbrev top : ℕ
-  top = enoughOf ys
+  top = enoughIn ys
 
   abbrev Post : Val → SProp 𝓤
   Post = walkOf 𝓤 H A play-steps.ended stayed (play-steps.clauses 𝓤 H A mem run) .post (((κ, tt), (q, tt), tt, x, at), tt)
@@ -166,7 +167,7 @@ module _ {M : Type 1} (𝓤 : URA M) (H : Heap 𝓤) (A : Atoms 𝓤) (W : Given
 
   goes-first : Is N.the-row n (vn ∷ []) → (xs : List ℕ) (v : Val) → Is Numbers xs (v ∷ []) → top < 2 ^ 64 → ent 𝓤 (sem 𝓤 H A ftrue) (PlayFirst 𝓤 H A mem run .pre (to-first xs v))
   goes-first isn xs v is g =
-      qed W (‵ ftrue ∷ []) ∵ nothing ! $ owned ! usize (Is usize) (uint-makes 𝓤 H A W w64) top _ (refl, g) $ fjoin ! $ owned ! Numbers (Is Numbers) (array-makes 𝓤 H A W u32 (uint-makes 𝓤 H A W w32) 4097) xs _ is $ fjoin ! $
+      qed W (‵ ftrue ∷ []) ∵ nothing ! $ owned ! usize (Is usize) (uint-makes 𝓤 H A W w64) top _ (refl, g) $ fjoin ! $ owned ! Numbers (Is Numbers) (array-makes 𝓤 H A W u32 (uint-makes 𝓤 H A W w32) most) xs _ is $ fjoin ! $
       owned ! N.the-row (Is N.the-row) (LL.makes N.the-type N′.the-plain 𝓤 H A) n _ isn $ fjoin ! $ move ! (1 ∷ 0 ∷ []) $ join ! $ frame ! $ done !
 
   module _ (𝓣 : Tables 𝓤 H) (known-enough : Triple 𝓤 (𝓣 .C #steps·enough) (Enough 𝓤 H A mem run)) (known-zeros : Triple 𝓤 (𝓣 .C #steps·zeros) (Zeros 𝓤 H A mem run)) (known-encode : Triple 𝓤 (𝓣 .C #actions·encode) (Encode 𝓤 H A mem run)) (known-first : Triple 𝓤 (𝓣 .C #steps·play-first) (PlayFirst 𝓤 H A mem run))
@@ -250,13 +251,13 @@ module _ {M : Type 1} (𝓤 : URA M) (H : Heap 𝓤) (A : Atoms 𝓤) (W : Given
           assigns ! (bin ! (load ! (from ! (stop !)) (look ! 5 refl)) (load ! (from ! (stop !)) (look ! 3 refl)) tt) (from ! (stop !)) (init ! 8 refl (tt, tt)) $
           rewrite ! 8 (λ (y : Bool). ‵ (fat fullShare tyBool l₈ 0 (vbool y))) (le-ltb (t .k) top big) refl $ leaves-loop ! (load ! (from ! (stop !)) (look ! 8 refl)) $ exec ! C Λ En body.t-7 (atRet En Post) $
           -- the numbers are one array again, which is copied whole
-          move ! (4 ∷ []) $ feqI ! ℕ (length (t .xs)) 4097 (t .size) $ fjoin ! $ use1 W (‵ (partAt Numbers fullShare (t .xs) l₄ 0)) (array-whole 𝓤 H A W u32 fullShare 4097 (t .xs) l₄ 0) $
+          move ! (4 ∷ []) $ feqI ! ℕ (length (t .xs)) most (t .size) $ fjoin ! $ use1 W (‵ (partAt Numbers fullShare (t .xs) l₄ 0)) (array-whole 𝓤 H A W u32 fullShare most (t .xs) l₄ 0) $
           fpick ! (λ vs. fsplit ! $ move ! (1 ∷ []) $ peeks ! Numbers (Is Numbers) (shows 𝓤 H A Numbers) (t .xs) vs (λ r. drop ! $
-          let tells = array-tells u32 (uint-vals w32) (uint-tells w32) 4097 (t .xs) vs r in
+          let tells = array-tells u32 (uint-vals w32) (uint-tells w32) most (t .xs) vs r in
           let its = subst (Is Numbers (t .xs)) tells r in
           rewrite ! 0 (λ (us : List Val). ‵ (cellAt fullShare (Numbers .mir) us l₄ 0)) tells refl $
           -- [_4; _0 to _3; _5 to _15; the token; what steps owns; that each dies]
-          assigns ! (of-opd ! (load ! (from ! (stop !)) (look-raw ! 0 refl))) (from ! (stop !)) (init ! 7 refl (array-typed u32 (uint-lawful 𝓤 H A W w32 .typed) 4097 (t .xs) _ its .0)) $
+          assigns ! (of-opd ! (load ! (from ! (stop !)) (look-raw ! 0 refl))) (from ! (stop !)) (init ! 7 refl (array-typed u32 (uint-lawful 𝓤 H A W w32 .typed) most (t .xs) _ its .0)) $
           nothing ! $ use1 W (raw (PlayFirst 𝓤 H A mem run .pre (to-first (t .xs) (only (array-vals (uint-vals w32) (t .xs)))))) (goes-first isn (t .xs) _ its small) $
           calls-at ! (fmOf 𝓤 H (W .laws) 𝓣) (PlayFirst 𝓤 H A mem run) known-first (to-first (t .xs) (only (array-vals (uint-vals w32) (t .xs)))) (and-then ! (load ! (from ! (stop !)) (look ! 3 refl)) (and-then ! (load ! (from ! (stop !)) (look ! 8 refl)) (and-then ! (load ! (from ! (stop !)) (look ! 5 refl)) (no-more !)))) (λ v.
           hears ! tt P.the-row (told-first 𝓤 H A mem run n (t .xs) top) v (id⊢ 𝓤 _) (λ p e is.
@@ -265,7 +266,7 @@ module _ {M : Type 1} (𝓤 : URA M) (H : Heap 𝓤) (A : Atoms 𝓤) (W : Given
           move ! (1 ∷ 18 ∷ []) $ free1 ! $ move ! (1 ∷ 17 ∷ []) $ free1 ! $ move ! (1 ∷ 16 ∷ []) $ free1 ! $ move ! (1 ∷ 15 ∷ []) $ free1 ! $ move ! (0 ∷ 14 ∷ []) $ free1 ! $ move ! (0 ∷ 13 ∷ []) $ free1 ! $
           move ! (0 ∷ 12 ∷ []) $ free1 ! $ move ! (0 ∷ 11 ∷ []) $ free1 ! $ move ! (0 ∷ 10 ∷ []) $ free1 ! $ move ! (0 ∷ 9 ∷ []) $ free1 ! $ move ! (0 ∷ 8 ∷ []) $ free1 ! $ move ! (0 ∷ 7 ∷ []) $ free1 ! $
           move ! (0 ∷ 6 ∷ []) $ free1 ! $ move ! (0 ∷ 5 ∷ []) $ free1 ! $ move ! (0 ∷ 4 ∷ []) $ free1 ! $ move ! (0 ∷ 3 ∷ []) $ free1 ! $ free0 ! $
-          by ! (exits isn p v is (gathered-all (t .xs) ys (t .k) n all (t .same) (subst (λ (k : ℕ). playedOf p ≡ play n (map actionOf (take (min k 4097) (t .xs)))) (sym all) e)))))))
+          by ! (exits isn p v is (gathered-all (t .xs) ys (t .k) n all (t .same) (subst (λ (k : ℕ). playedOf p ≡ play n (map actionOf (take (enoughOf k) (t .xs)))) (sym all) e)))))))
 
       turn : (t : Spot ys) → Sq W (I t) (runs C Λ En body.turn-1 (anyQ (afterTurn 𝓤 H (Below 𝓤 H A less I t) Left)))
       turn t = ⊎-elim (λ all. ends t (omega arith)) (λ small. more t small) (eq-or-lt-of-le (t .inside))
@@ -283,23 +284,23 @@ module _ {M : Type 1} (𝓤 : URA M) (H : Heap 𝓤) (A : Atoms 𝓤) (W : Given
         assigns ! (of-opd ! (load ! (from ! (fld ! refl (stop !))) (look-in ! 26 (sub ! 1 refl (whole !))))) (from ! (stop !)) (init ! 18 refl (tt, record { fits = gn .0 })) $
         nothing ! $ use1 W (raw (Enough 𝓤 H A mem run .pre (to-enough 𝓤 H A mem run (length ys)))) (goes-enough 𝓤 H A mem run W (length ys) (gn .0)) $
         calls-at ! (fmOf 𝓤 H (W .laws) 𝓣) (Enough 𝓤 H A mem run) known-enough (to-enough 𝓤 H A mem run (length ys)) (and-then ! (load ! (from ! (stop !)) (look ! 19 refl)) (no-more !)) (λ u.
-        hears ! tt usize (told-enough 𝓤 H A mem run (length ys)) u (id⊢ 𝓤 _) (λ m most ism.
+        hears ! tt usize (told-enough 𝓤 H A mem run (length ys)) u (id⊢ 𝓤 _) (λ m all ism.
         land ! (from ! (stop !)) (init ! 25 refl (uint-lawful 𝓤 H A W w64 .typed m _ ism .0)) $ drop ! $
-        rewrite ! 24 (λ (w : Val). ‵ (fat fullShare (tyInt w64) l₃ 0 w)) (ap only (uint-tells w64 m (u ∷ []) ism) ∙ ap (vint w64) most) refl $
+        rewrite ! 24 (λ (w : Val). ‵ (fat fullShare (tyInt w64) l₃ 0 w)) (ap only (uint-tells w64 m (u ∷ []) ism) ∙ ap (vint w64) all) refl $
         nothing ! $ use1 W (raw (Zeros 𝓤 H A mem run .pre to-zeros)) goes-zeros $
         calls-at ! (fmOf 𝓤 H (W .laws) 𝓣) (Zeros 𝓤 H A mem run) known-zeros to-zeros (no-more !) (λ v.
         use1 W (later (some (λ (xs : List ℕ). (‵ ftrue ⊛ ‵ (Numbers .own xs (v ∷ []))) ⊛ raw (ensured 𝓤 H A zeros.ended (zeros.clauses 𝓤 H A mem run) tt tt tt xs)))) (id⊢ 𝓤 _) $ await ! tt $ pick ! (λ xs.
         split ! $ move ! (1 ∷ []) $ drop ! $ split ! $ drop ! $
         peeks ! Numbers (Is Numbers) (shows 𝓤 H A Numbers) xs (v ∷ []) (λ is.
-        let typed = array-typed u32 (uint-lawful 𝓤 H A W w32 .typed) 4097 xs (v ∷ []) is .0 in
+        let typed = array-typed u32 (uint-lawful 𝓤 H A W w32 .typed) most xs (v ∷ []) is .0 in
         land ! (from ! (stop !)) (init ! 17 refl typed) $ drop ! $
         assigns ! (of-opd ! (load ! (from ! (stop !)) (look ! 16 refl))) (from ! (stop !)) (init ! 22 refl typed) $
         assigns ! (of-opd ! (lit ! tt)) (from ! (stop !)) (init ! 20 refl (tt, record { fits = lit< tt })) $
         forget ! 16 refl $ forget ! 18 refl $
         -- the array is taken apart into its elements
-        move ! (22 ∷ []) $ owned ! Numbers (Is Numbers) (array-makes 𝓤 H A W u32 (uint-makes 𝓤 H A W w32) 4097) xs (v ∷ []) is $ move ! (1 ∷ 0 ∷ []) $ fjoin ! $
+        move ! (22 ∷ []) $ owned ! Numbers (Is Numbers) (array-makes 𝓤 H A W u32 (uint-makes 𝓤 H A W w32) most) xs (v ∷ []) is $ move ! (1 ∷ 0 ∷ []) $ fjoin ! $
         fpack ! (List Val) (λ vs. fsep (cellAt fullShare (Numbers .mir) vs l₄ 0) (Numbers .own xs vs)) (v ∷ []) $
-        use1 W (‵ (arr-parts (shares u32) 4097 .part fullShare xs l₄ 0)) (array-apart 𝓤 H A W u32 fullShare tt 4097 xs l₄ 0) $ fsplit ! $ feqL ! (λ size.
+        use1 W (‵ (arr-parts (shares u32) most .part fullShare xs l₄ 0)) (array-apart 𝓤 H A W u32 fullShare tt most xs l₄ 0) $ fsplit ! $ feqL ! (λ size.
         move ! (33 ∷ []) $ fsplit ! $ drop ! $ fsplit ! $ move ! (34 ∷ []) $ split ! $
         -- [the token; true; what steps owns; true; the numbers; _15; ..; _5; ..; (that _4 dies); _3; ..; _0; that it dies]
         keep ! (34 ∷ 32 ∷ 30 ∷ 28 ∷ 4 ∷ 25 ∷ 23 ∷ 21 ∷ 19 ∷ 17 ∷ 15 ∷ 13 ∷ 11 ∷ 9 ∷ 7 ∷ 5 ∷ 0 ∷ 2 ∷ 35 ∷ 33 ∷ 31 ∷ 29 ∷ 27 ∷ 26 ∷ 24 ∷ 22 ∷ 20 ∷ 18 ∷ 16 ∷ 14 ∷ 12 ∷ 10 ∷ 8 ∷ 6 ∷ []) $
