@@ -1,0 +1,93 @@
+// How a case is played and printed.
+use engine::Played;
+use node::Node;
+
+// A case: its name, and what the program of document 01 prints for the two texts.
+pub fn case(name: &[u8], plan: &[u8], steps: &[u8]) {
+    title(name);
+    let r = plan::load(plan);
+    if r.number != 0 {
+        two(b"load=", r.number as u64, r.line as u64);
+        return;
+    }
+    let s = schedule::read(steps);
+    if s.number != 0 {
+        two(b"steps=", s.number as u64, s.line as u64);
+        return;
+    }
+    let numbers = s.steps;
+    played(play_of(r.node, &numbers, s.count));
+}
+
+// What a play tells, and the listing.
+pub fn played(r: Played) {
+    one(b"accepted=", r.accepted as u64);
+    one(b"refused=", r.refusal as u64);
+    listed(r.node);
+}
+
+// The node that a plan and steps lead to.
+pub fn reached(plan: &[u8], steps: &[u8]) -> Node {
+    let r = plan::load(plan);
+    let s = schedule::read(steps);
+    let numbers = s.steps;
+    let p = play_of(r.node, &numbers, s.count);
+    p.node
+}
+
+// The listing of a node, or `list=` with its refusal.
+pub fn listed(n: Node) {
+    let mut out = [0u8; 40000];
+    listed_in(n, &mut out);
+}
+
+fn listed_in(n: Node, out: &mut [u8]) {
+    let told = listing::list(n, out);
+    if told.number != 0 {
+        two(b"list=", told.number as u64, told.length as u64);
+        return;
+    }
+    write_first(out, told.length);
+}
+
+// The first bytes of a buffer; nothing where it has not so many.
+fn write_first(out: &[u8], length: usize) {
+    if length <= out.len() {
+        io::write_all(1, &out[..length]);
+    }
+}
+
+fn play_of(n: Node, numbers: &[u32; 4096], count: usize) -> Played {
+    play_first(n, numbers, count)
+}
+
+// A play of the first `count` numbers; of all where there are not so many.
+fn play_first(n: Node, numbers: &[u32], count: usize) -> Played {
+    if count <= numbers.len() {
+        return engine::play(n, &numbers[..count]);
+    }
+    engine::play(n, numbers)
+}
+
+// The name of a case.
+pub fn title(name: &[u8]) {
+    io::write_all(1, b"== ");
+    io::write_all(1, name);
+    io::write_all(1, b"\n");
+}
+
+// A line with a key and a number.
+pub fn one(key: &[u8], n: u64) {
+    io::write_all(1, key);
+    io::print_decimal(1, n);
+    io::write_all(1, b"\n");
+}
+
+// A line with a key and two numbers.
+pub fn two(key: &[u8], n: u64, m: u64) {
+    io::write_all(1, key);
+    io::print_decimal(1, n);
+    io::write_all(1, b",");
+    io::print_decimal(1, m);
+    io::write_all(1, b"\n");
+}
