@@ -1,8 +1,7 @@
 // The program: plays the schedule in steps.txt on the plan in plan.txt, both in the folder that it is started in, and prints what
 // `controller::simulate` gives.
+use files::read_file;
 use libc::STDOUT_FILENO;
-ghost use Prim.Native.Nat.{_≤_};
-ghost use lib.ListN.{length};
 
 // The longest texts, each with one byte more, so that a text past its limit is seen to be.
 const PLAN: usize = 16385;
@@ -21,17 +20,4 @@ fn main() {
     let r = controller::simulate(&plan[..p], &steps[..s], &mut out);
     let n = r.length;
     io::write_all(STDOUT_FILENO, &out[..n]);
-}
-
-// The file's first bytes, as far as the buffer reaches; a file that can't be opened or read counts as empty.
-fn read_file(path: &[u8], buffer: &mut [u8]) -> usize
-    ensures { λ r. ⌜ r ≤ length (now (buffer .exit)) ⌝ }
-{
-    let file = os::open_read(path);
-    if file < 0 {
-        return 0;
-    }
-    let n = io::read_full(file, buffer);
-    libc::close(file);
-    n
 }

@@ -108,6 +108,20 @@ record Spot (ys : List Step) : Type 0 where
   inside : k ≤ enoughIn ys
   same : Gathered xs ys k
 
+-- where it stands first, at j
+begins : {ys : List Step} (xs : List ℕ) (j : ℕ) → j ≡ 0 → length xs ≡ most → Spot ys
+begins xs j none size = record { k = j; xs = xs; size = size; inside = omega (arith, none); same = rw none }
+
+-- where it stands once the next step is gathered as r, and it goes on at j
+gathers : {ys : List Step} (t : Spot ys) (r j : ℕ) → j ≡ t .k + 1 → t .k < enoughIn ys → decode r ≡ getD ys (t .k) noStep → Spot ys
+gathers {ys} t r j next small e = record {
+  k = j;
+  xs = set (t .xs) (t .k) r;
+  size = length-set (t .xs) (t .k) r ∙ t .size;
+  inside = omega (arith, next, small);
+  same = rw next (gathered-more (t .xs) ys (t .k) r (omega (arith, small, t .size)) (omega (arith, small)) e (t .same));
+}
+
 module _ {M : Type 1} (𝓤 : URA M) (H : Heap 𝓤) (A : Atoms 𝓤) (mem : Memory → SProp 𝓤) (run : Routine → Fun 𝓤) where
   -- the contracts that the proof cites
   abbrev Zeros : Contract 𝓤
@@ -202,13 +216,12 @@ module _ {M : Type 1} (𝓤 : URA M) (H : Heap 𝓤) (A : Atoms 𝓤) (W : Given
 
       -- a turn that gathers a step
       more : (t : Spot ys) → t .k < top → Sq W (I t) (runs C Λ En body.turn-1 (anyQ (afterTurn 𝓤 H (Below 𝓤 H A less I t) Left)))
-      unfolding afterTurn
+      unfolding afterTurn gathers
       more t small =
           let here : t .k < length ys = omega arith in
           let room : t .k < length (t .xs) = omega (arith, t .size) in
           let far : t .k * 3 < 2 ^ 64 = omega (arith, small) in
           let near : t .k * 4 < 2 ^ 64 = omega (arith, small) in
-          let next : t .k + 1 < 2 ^ 64 = omega (arith, small) in
           assigns ! (bin ! (load ! (from ! (stop !)) (look ! 5 refl)) (load ! (from ! (stop !)) (look ! 3 refl)) tt) (from ! (stop !)) (init ! 8 refl (tt, tt)) $
           rewrite ! 8 (λ (y : Bool). ‵ (fat fullShare tyBool l₈ 0 (vbool y))) (lt-ltb (t .k) top small) refl $ stays ! (load ! (from ! (stop !)) (look ! 8 refl)) $
           assigns ! (bin ! (load ! (from ! (stop !)) (look ! 5 refl)) (lit ! tt) (record { fits = far })) (from ! (stop !)) (init ! 10 refl (tt, record { fits = far })) $
@@ -237,10 +250,10 @@ module _ {M : Type 1} (𝓤 : URA M) (H : Heap 𝓤) (A : Atoms 𝓤) (W : Given
           assigns ! (of-opd ! (load ! (from ! (stop !)) (look ! 13 refl))) (from ! (hop ! (look ! 19 refl) (stop !))) (store ! 0 refl (uint-lawful 𝓤 H A W w32 .typed r _ is .0)) $
           move ! (1 ∷ []) $ drop ! $ owned ! u32 (Is u32) (uint-makes 𝓤 H A W w32) r (v ∷ []) is $ move ! (1 ∷ 0 ∷ []) $ elem-put ! u32 fullShare (t .xs) (t .k) r (v ∷ []) l₄ 0 room $
           -- [the numbers; what steps owns; the token; _0 to _3; _5 to _15; that each dies]
-          assigns-last ! (bin ! (load ! (from ! (stop !)) (look ! 7 refl)) (lit ! tt) (record { fits = next })) (from ! (stop !)) (store ! 7 refl (tt, record { fits = next })) $
+          assigns-last ! (bin ! (load ! (from ! (stop !)) (look ! 7 refl)) (lit ! tt) (record { fits = omega (arith, small) })) (from ! (stop !)) (store ! 7 refl (tt, record { fits = omega (arith, small) })) $
           forget ! 10 refl $ forget ! 11 refl $ forget ! 12 refl $ forget ! 13 refl $ forget ! 14 refl $ forget ! 15 refl $ forget ! 16 refl $ forget ! 17 refl $
           keep ! (3 ∷ 4 ∷ 5 ∷ 6 ∷ 0 ∷ 7 ∷ 8 ∷ 9 ∷ 10 ∷ 11 ∷ 12 ∷ 13 ∷ 14 ∷ 15 ∷ 16 ∷ 17 ∷ 2 ∷ 1 ∷ 18 ∷ 19 ∷ 20 ∷ 21 ∷ 22 ∷ 23 ∷ 24 ∷ 25 ∷ 26 ∷ 27 ∷ 28 ∷ 29 ∷ 30 ∷ 31 ∷ 32 ∷ 33 ∷ []) $
-          again ! less I t (record { k = t .k + 1; xs = set (t .xs) (t .k) r; size = length-set (t .xs) (t .k) r ∙ t .size; inside = omega (arith, small); same = gathered-more (t .xs) ys (t .k) r room here e (t .same) }) (omega (arith, small)))))))
+          again ! less I t (gathers t r _ (omega arith) small e) (omega (arith, small)))))))
 
       -- the turn that leaves the loop, and the rest of the body
       ends : (t : Spot ys) → top ≤ t .k → Sq W (I t) (runs C Λ En body.turn-1 (anyQ (afterTurn 𝓤 H (Below 𝓤 H A less I t) Left)))
@@ -275,7 +288,7 @@ module _ {M : Type 1} (𝓤 : URA M) (H : Heap 𝓤) (A : Atoms 𝓤) (W : Given
       rounds t = first ! $ blocks ! $ loops ! 𝓣 less (InvImage·wf (λ (u : Spot ys). top - u .k) (Nat·lt-wfRel .wf)) I turn t
 
     walk : ent 𝓤 (onEntry 𝓤 H A play-steps.signature (κ, tt) (q, tt) x at) (WpFn 𝓤 H C Λ code.function (vn ∷ sliceVal (b, o) (length ys) ∷ []) Post)
-    unfolding partOf
+    unfolding partOf begins
     walk =
         qed W ((‵ (flft κ q) ⊛ ‵ ftrue) ∷ ‵ (owns (N.the-row ∷ ShrSlice (named 0) κ S.the-row ∷ []) x at) ∷ []) ∵ enter ! C Λ code.function (vn ∷ sliceVal (b, o) (length ys) ∷ []) _ $
         alloc1 ! (λ l₀. alloc1 ! (λ l₁. alloc1 ! (λ l₂. alloc1 ! (λ l₃. alloc1 ! (λ l₄. alloc1 ! (λ l₅. alloc1 ! (λ l₆. alloc1 ! (λ l₇. alloc1 ! (λ l₈. alloc1 ! (λ l₉. alloc1 ! (λ l₁₀. alloc1 ! (λ l₁₁. alloc1 ! (λ l₁₂. alloc1 ! (λ l₁₃. alloc1 ! (λ l₁₄. alloc1 ! (λ l₁₅. alloc0 ! $ params1 ! $
@@ -304,7 +317,7 @@ module _ {M : Type 1} (𝓤 : URA M) (H : Heap 𝓤) (A : Atoms 𝓤) (W : Given
         move ! (33 ∷ []) $ fsplit ! $ drop ! $ fsplit ! $ move ! (34 ∷ []) $ split ! $
         -- [the token; true; what steps owns; true; the numbers; _15; ..; _5; ..; (that _4 dies); _3; ..; _0; that it dies]
         keep ! (34 ∷ 32 ∷ 30 ∷ 28 ∷ 4 ∷ 25 ∷ 23 ∷ 21 ∷ 19 ∷ 17 ∷ 15 ∷ 13 ∷ 11 ∷ 9 ∷ 7 ∷ 5 ∷ 0 ∷ 2 ∷ 35 ∷ 33 ∷ 31 ∷ 29 ∷ 27 ∷ 26 ∷ 24 ∷ 22 ∷ 20 ∷ 18 ∷ 16 ∷ 14 ∷ 12 ∷ 10 ∷ 8 ∷ 6 ∷ []) $
-        rounds l₀ l₁ l₂ l₃ l₄ l₅ l₆ l₇ l₈ l₉ l₁₀ l₁₁ l₁₂ l₁₃ l₁₄ l₁₅ (record { k = 0; xs = xs; size = size; inside = omega arith; same = refl })))))))))))))))))))))))
+        rounds l₀ l₁ l₂ l₃ l₄ l₅ l₆ l₇ l₈ l₉ l₁₀ l₁₁ l₁₂ l₁₃ l₁₄ l₁₅ (begins xs _ (omega arith) size)))))))))))))))))))))))
 
 module _ {M : Type 1} (𝓤 : URA M) (H : Heap 𝓤) (A : Atoms 𝓤) (W : Given 𝓤 H A) (mem : Memory → SProp 𝓤) (run : Routine → Fun 𝓤) (𝓣 : Tables 𝓤 H) (known-enough : Triple 𝓤 (𝓣 .C #steps·enough) (Enough 𝓤 H A mem run)) (known-zeros : Triple 𝓤 (𝓣 .C #steps·zeros) (Zeros 𝓤 H A mem run))
     (known-encode : Triple 𝓤 (𝓣 .C #actions·encode) (Encode 𝓤 H A mem run)) (known-first : Triple 𝓤 (𝓣 .C #steps·play-first) (PlayFirst 𝓤 H A mem run)) where
