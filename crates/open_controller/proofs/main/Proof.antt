@@ -3,7 +3,7 @@ use borrow.Author.Needs.{needs}
 use Rattle.open_controller.proofs.main.Statement.{statement}
 use Rattle.open_controller.proofs.main.Tie as tie
 use Rattle.controller.proofs.Laws.{told-within}
-use Rattle.open_controller.proofs.Taken.{taken}
+use Rattle.files.proofs.Taken.{taken}
 
 slice-aggregate-read-file : tie.Need-slice-aggregate-read-file
 slice-aggregate-read-file c = search needs
