@@ -1,7 +1,8 @@
-// The ops other than recv, links, and closing.
+// The sample of document 01, the ops other than recv, links, and closing.
 use super::show::case;
 
 pub fn all() {
+    sample();
     own_link();
     own_link_full();
     link_again();
@@ -22,6 +23,32 @@ pub fn all() {
     end();
     lowest_first();
     then_gone();
+}
+
+// The sample of document 01.
+fn sample() {
+    case(
+        b"sample",
+        b"plan=1
+behaviours=2
+code=3
+op=set,0,p2
+op=set,1,i12
+op=send,0,1
+code=2
+op=recv,1
+op=clause,int,0,1,2
+starts=2
+start=1,1
+start=2,2
+",
+        b"run=1
+run=1
+run=1
+arrive=2,1
+run=2
+",
+    );
 }
 
 // Link and unlink to itself change the place and nothing else.

@@ -8,6 +8,7 @@ pub fn all() {
     plan_bytes();
     plan_number();
     plan_surplus();
+    plan_largest();
     newlines();
     lines();
     arrivals();
@@ -53,6 +54,95 @@ fn plan_surplus_in(text: &mut [u8]) {
     plan_first(b"a plan and empty lines, 16,385 bytes", text, 16385);
 }
 
+// Eight behaviours of 32 ops, from line 4 to line 266, and sixteen starts, to line 283. The first op stands at byte 28 and the last at
+// 2,634; the last digit of the last start's process stands at 2,817.
+fn plan_largest() {
+    let mut text = [0u8; 4096];
+    plan_largest_in(&mut text);
+}
+
+fn plan_largest_in(text: &mut [u8]) {
+    let e = largest(text);
+    plan_first(b"the largest plan", text, e);
+    put_bytes(text, 2634, b"op=recv,1");
+    plan_first(b"14 on its last op", text, e);
+    put_bytes(text, 28, b"op=recv,1");
+    plan_first(b"14 on its first op too", text, e);
+    put_byte(text, 2817, b'5');
+    plan_first(b"13 on its last line", text, e);
+}
+
+fn largest(text: &mut [u8]) -> usize {
+    let mut e = put_bytes(
+        text,
+        0,
+        b"plan=1
+behaviours=8
+",
+    );
+    e = repeated(
+        text,
+        e,
+        b"code=32
+op=stop,0
+op=stop,0
+op=stop,0
+op=stop,0
+op=stop,0
+op=stop,0
+op=stop,0
+op=stop,0
+op=stop,0
+op=stop,0
+op=stop,0
+op=stop,0
+op=stop,0
+op=stop,0
+op=stop,0
+op=stop,0
+op=stop,0
+op=stop,0
+op=stop,0
+op=stop,0
+op=stop,0
+op=stop,0
+op=stop,0
+op=stop,0
+op=stop,0
+op=stop,0
+op=stop,0
+op=stop,0
+op=stop,0
+op=stop,0
+op=stop,0
+op=stop,0
+",
+        8,
+    );
+    put_bytes(
+        text,
+        e,
+        b"starts=16
+start=1,8
+start=2,8
+start=3,8
+start=4,8
+start=5,8
+start=6,8
+start=7,8
+start=8,8
+start=9,8
+start=10,8
+start=11,8
+start=12,8
+start=13,8
+start=14,8
+start=15,8
+start=16,8
+",
+    )
+}
+
 // 61,440 empty lines are within the limit, and the first is malformed; one byte more is 32.
 fn newlines() {
     let text = [b'\n'; 61441];
@@ -67,7 +157,7 @@ fn lines() {
 }
 
 fn lines_in(text: &mut [u8]) {
-    repeated(text, b"run=1\n", 4097);
+    repeated(text, 0, b"run=1\n", 4097);
     steps_first(b"4,096 lines", text, 24576);
     steps_first(b"4,097 lines", text, 24582);
     steps_first(b"4,097 lines, the last without its end", text, 24581);
@@ -85,7 +175,7 @@ fn arrivals() {
 }
 
 fn arrivals_in(text: &mut [u8]) {
-    repeated(text, b"arrive=255,255\n", 4096);
+    repeated(text, 0, b"arrive=255,255\n", 4096);
     steps_first(b"4,096 lines of 15 bytes", text, 61440);
     steps_first(b"4,096 lines of 15 bytes and a byte", text, 61441);
     steps_first(b"4,096 lines of 15 bytes less one byte", text, 61439);
@@ -103,12 +193,13 @@ fn digits_in(text: &mut [u8]) {
     steps_first(b"61,440 bytes with a number", text, 61440);
 }
 
-// A text again and again, from the front of a buffer.
-fn repeated(out: &mut [u8], unit: &[u8], times: usize) {
-    let mut e = 0;
+// A text again and again, from a place of a buffer on; the place behind it.
+fn repeated(out: &mut [u8], at: usize, unit: &[u8], times: usize) -> usize {
+    let mut e = at;
     let mut k = 0;
     while k < times {
         e = put_bytes(out, e, unit);
         k += 1;
     }
+    e
 }

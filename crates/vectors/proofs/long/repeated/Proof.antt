@@ -8,10 +8,10 @@ use Rattle.vectors.proofs.long.repeated.Statement.{statement}
 use Rattle.vectors.proofs.long.repeated.Tie as tie
 
 abbrev Inv-loop : tie.InvT-loop
-Inv-loop out₀ unit times e₀ k₀ out e k = length out ≡ length out₀
+Inv-loop out₀ at unit times e₀ k₀ out e k = length out ≡ length out₀
 
 abbrev μ-loop : tie.MeasureT-loop
-μ-loop out₀ unit times e₀ k₀ out e k = times - k
+μ-loop out₀ at unit times e₀ k₀ out e k = times - k
 
 loop-holds : tie.Need-loop-holds Inv-loop μ-loop
 loop-holds c = search needs
