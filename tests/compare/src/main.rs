@@ -37,8 +37,8 @@ fn differ(what: &str, plan: &[u8], steps: &[u8], expected: &[u8], found: &[u8]) 
 }
 
 /// What a file of the program is: bytes, a folder, or not there.
-enum File<'a> {
-    Bytes(&'a [u8]),
+enum File {
+    Bytes(Vec<u8>),
     Folder,
     Absent,
 }
@@ -54,7 +54,7 @@ fn put(path: &Path, file: &File) {
 }
 
 /// What the file counts as; the program reads at most one byte past the limit.
-fn text<'a>(file: &'a File, limit: usize) -> &'a [u8] {
+fn text(file: &File, limit: usize) -> &[u8] {
     match file {
         File::Bytes(bytes) => &bytes[..bytes.len().min(limit + 1)],
         File::Folder | File::Absent => b"",
@@ -72,7 +72,7 @@ fn run_program(program: &Path, folder: &Path, plan: &File, steps: &File) {
     }
 }
 
-/// A plan that fills its limit, by ops that are as long as they can be; with `more` bytes behind it.
+/// A plan text of 16,384 bytes and `more`, by a number with many digits: 12, and 10 above the limit.
 fn long_plan(more: usize) -> Vec<u8> {
     let mut plan = b"plan=1\nbehaviours=1\ncode=1\nop=set,0,i".to_vec();
     let tail = b"\nstarts=1\nstart=1,1\n";
@@ -81,65 +81,42 @@ fn long_plan(more: usize) -> Vec<u8> {
     plan
 }
 
-/// Steps text of a length, whole lines of one step and at the end one that is made longer by its key.
+/// Steps text of a length: whole lines of one step, and empty lines where no other fits.
 fn long_steps(length: usize) -> Vec<u8> {
     let mut steps = b"arrive=255,255\n".repeat(length / 15);
     steps.resize(length, b'\n');
     steps
 }
 
+/// Each kind of plan file with each kind of steps file.
 fn special_files(program: &Path, folder: &Path) -> usize {
     let (plan, steps) = second::case(1, 0);
     let plans = [
-        File::Bytes(&plan),
-        File::Bytes(b""),
+        File::Bytes(plan),
+        File::Bytes(Vec::new()),
         File::Absent,
         File::Folder,
-        File::Bytes(&long_plan(0)[..]),
-        File::Bytes(&long_plan(1)[..]),
-        File::Bytes(&long_plan(5000)[..]),
-    ]
-    .map(own);
-    let step_files = [
-        File::Bytes(&steps),
-        File::Bytes(b""),
+        File::Bytes(long_plan(0)),
+        File::Bytes(long_plan(1)),
+        File::Bytes(long_plan(5000)),
+    ];
+    let schedules = [
+        File::Bytes(steps),
+        File::Bytes(Vec::new()),
         File::Absent,
         File::Folder,
-        File::Bytes(&long_steps(61_440)[..]),
-        File::Bytes(&long_steps(61_441)[..]),
-        File::Bytes(&b"run=1\n".repeat(4096)[..]),
-        File::Bytes(&b"run=1\n".repeat(4097)[..]),
-        File::Bytes(&b"\n".repeat(61_440)[..]),
-    ]
-    .map(own);
+        File::Bytes(long_steps(61_440)),
+        File::Bytes(long_steps(61_441)),
+        File::Bytes(b"run=1\n".repeat(4096)),
+        File::Bytes(b"run=1\n".repeat(4097)),
+        File::Bytes(b"\n".repeat(61_440)),
+    ];
     for plan in &plans {
-        for steps in &step_files {
-            run_program(program, folder, &borrow(plan), &borrow(steps));
+        for steps in &schedules {
+            run_program(program, folder, plan, steps);
         }
     }
-    plans.len() * step_files.len()
-}
-
-enum Owned {
-    Bytes(Vec<u8>),
-    Folder,
-    Absent,
-}
-
-fn own(file: File) -> Owned {
-    match file {
-        File::Bytes(bytes) => Owned::Bytes(bytes.to_vec()),
-        File::Folder => Owned::Folder,
-        File::Absent => Owned::Absent,
-    }
-}
-
-fn borrow(file: &Owned) -> File<'_> {
-    match file {
-        Owned::Bytes(bytes) => File::Bytes(bytes),
-        Owned::Folder => File::Folder,
-        Owned::Absent => File::Absent,
-    }
+    plans.len() * schedules.len()
 }
 
 fn main() {
@@ -169,7 +146,7 @@ fn main() {
     fs::create_dir_all(&folder).unwrap();
     for k in 0..program_cases {
         let (plan, steps) = second::case(seed + 1, k);
-        run_program(&program, &folder, &File::Bytes(&plan), &File::Bytes(&steps));
+        run_program(&program, &folder, &File::Bytes(plan), &File::Bytes(steps));
     }
     let files = special_files(&program, &folder);
     fs::remove_dir_all(&folder).unwrap();

@@ -1,6 +1,7 @@
 //! A second interpreter of document 01 (the open garage node), with a seeded generator of cases.
 //! It shares no code and no tables with the proved crates, so that the two can be compared.
 
+pub mod arguments;
 pub mod cases;
 pub mod coverage;
 pub mod listing;

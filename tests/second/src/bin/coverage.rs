@@ -4,14 +4,7 @@ use second::Coverage;
 use std::time::Instant;
 
 fn main() {
-    let numbers: Vec<u64> = std::env::args()
-        .skip(1)
-        .filter_map(|argument| argument.parse().ok())
-        .collect();
-    let [seed, count] = numbers[..] else {
-        eprintln!("usage: coverage SEED COUNT");
-        std::process::exit(1);
-    };
+    let (seed, count) = second::arguments::seed_and_count("coverage");
     let begin = Instant::now();
     let mut coverage = Coverage::new();
     for k in 0..count {

@@ -3,14 +3,7 @@
 use second::reorder;
 
 fn main() {
-    let numbers: Vec<u64> = std::env::args()
-        .skip(1)
-        .filter_map(|argument| argument.parse().ok())
-        .collect();
-    let [seed, count] = numbers[..] else {
-        eprintln!("usage: reorder SEED COUNT");
-        std::process::exit(1);
-    };
+    let (seed, count) = second::arguments::seed_and_count("reorder");
     let (mut steps, mut differs, mut skipped) = (0, 0, 0);
     for k in 0..count {
         match reorder::check(seed, k) {
