@@ -5,7 +5,7 @@ use node::Node;
 use node::ProcessNumber;
 use node::Step;
 
-pub fn all() {
+pub(crate) fn all() {
     no_steps();
     longest();
     too_long();

@@ -1,7 +1,7 @@
 // Exit signals: each line of document 01, "Arrive".
 use super::show::case;
 
-pub fn all() {
+pub(crate) fn all() {
     line_1_trap();
     line_1_kill();
     line_2_trap();

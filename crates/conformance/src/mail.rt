@@ -1,7 +1,7 @@
 // Mailboxes: 24, 25, which message and which clause a recv takes, and signals to processes that are not born yet.
 use super::show::case;
 
-pub fn all() {
+pub(crate) fn all() {
     seventeenth();
     full_note();
     full_linked();

@@ -1,7 +1,7 @@
 // The sample of document 01, the ops other than recv, links, and closing.
 use super::show::case;
 
-pub fn all() {
+pub(crate) fn all() {
     sample();
     own_link();
     own_link_full();

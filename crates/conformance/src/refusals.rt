@@ -1,7 +1,7 @@
 // Refusals 20 to 23, 26 and 27: what is refused, and that nothing changes.
 use super::show::case;
 
-pub fn all() {
+pub(crate) fn all() {
     process_0();
     process_17();
     process_255();

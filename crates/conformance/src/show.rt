@@ -3,7 +3,7 @@ use engine::Played;
 use node::Node;
 
 // A case: its name, and what the program of document 01 prints for the two texts.
-pub fn case(name: &[u8], plan: &[u8], steps: &[u8]) {
+pub(crate) fn case(name: &[u8], plan: &[u8], steps: &[u8]) {
     title(name);
     let r = plan::load(plan);
     if r.number != 0 {
@@ -20,14 +20,14 @@ pub fn case(name: &[u8], plan: &[u8], steps: &[u8]) {
 }
 
 // What a play tells, and the listing.
-pub fn played(r: Played) {
+pub(crate) fn played(r: Played) {
     one(b"accepted=", r.accepted as u64);
     one(b"refused=", r.refusal as u64);
     listed(r.node);
 }
 
 // The node that a plan and steps lead to.
-pub fn reached(plan: &[u8], steps: &[u8]) -> Node {
+pub(crate) fn reached(plan: &[u8], steps: &[u8]) -> Node {
     let r = plan::load(plan);
     let s = schedule::read(steps);
     let numbers = s.steps;
@@ -36,7 +36,7 @@ pub fn reached(plan: &[u8], steps: &[u8]) -> Node {
 }
 
 // The listing of a node, or `list=` with its refusal.
-pub fn listed(n: Node) {
+pub(crate) fn listed(n: Node) {
     let mut out = [0u8; 40000];
     listed_in(n, &mut out);
 }
@@ -70,21 +70,21 @@ fn play_first(n: Node, numbers: &[u32], count: usize) -> Played {
 }
 
 // The name of a case.
-pub fn title(name: &[u8]) {
+pub(crate) fn title(name: &[u8]) {
     io::write_all(1, b"== ");
     io::write_all(1, name);
     io::write_all(1, b"\n");
 }
 
 // A line with a key and a number.
-pub fn one(key: &[u8], n: u64) {
+pub(crate) fn one(key: &[u8], n: u64) {
     io::write_all(1, key);
     io::print_decimal(1, n);
     io::write_all(1, b"\n");
 }
 
 // A line with a key and two numbers.
-pub fn two(key: &[u8], n: u64, m: u64) {
+pub(crate) fn two(key: &[u8], n: u64, m: u64) {
     io::write_all(1, key);
     io::print_decimal(1, n);
     io::write_all(1, b",");

@@ -10,7 +10,7 @@ use node::Signal;
 use node::Step;
 use node::Value;
 
-pub fn all() {
+pub(crate) fn all() {
     behaviours();
     codes();
     places();

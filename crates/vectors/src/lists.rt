@@ -2,7 +2,7 @@
 use super::show::two;
 use node::Node;
 
-pub fn all() {
+pub(crate) fn all() {
     gone_lists();
     blank_lists();
     unsound_lists();

@@ -4,7 +4,7 @@ use super::show::steps_first;
 use text::put_byte;
 use text::put_bytes;
 
-pub fn all() {
+pub(crate) fn all() {
     plan_bytes();
     plan_number();
     plan_surplus();

@@ -3,7 +3,7 @@ use super::show::plan;
 use super::show::plans_with;
 use super::show::two;
 
-pub fn all() {
+pub(crate) fn all() {
     header();
     behaviours();
     code();

@@ -2,7 +2,7 @@
 use text::put_bytes;
 
 // A plan, and what its load tells: the number and the line.
-pub fn plan(name: &[u8], text: &[u8]) {
+pub(crate) fn plan(name: &[u8], text: &[u8]) {
     let r = plan::load(text);
     io::write_all(1, name);
     io::write_all(1, b" ");
@@ -10,7 +10,7 @@ pub fn plan(name: &[u8], text: &[u8]) {
 }
 
 // Steps, and what is told: the number, the line and the count of steps.
-pub fn steps(name: &[u8], text: &[u8]) {
+pub(crate) fn steps(name: &[u8], text: &[u8]) {
     let r = schedule::read(text);
     io::write_all(1, name);
     io::write_all(1, b" ");
@@ -20,7 +20,7 @@ pub fn steps(name: &[u8], text: &[u8]) {
 }
 
 // Two numbers that end a line.
-pub fn two(n: u64, m: u64) {
+pub(crate) fn two(n: u64, m: u64) {
     io::print_decimal(1, n);
     io::write_all(1, b",");
     io::print_decimal(1, m);
@@ -28,21 +28,21 @@ pub fn two(n: u64, m: u64) {
 }
 
 // The plan in the first bytes of a buffer.
-pub fn plan_first(name: &[u8], out: &[u8], length: usize) {
+pub(crate) fn plan_first(name: &[u8], out: &[u8], length: usize) {
     if length <= out.len() {
         plan(name, &out[..length]);
     }
 }
 
 // The steps in the first bytes of a buffer.
-pub fn steps_first(name: &[u8], out: &[u8], length: usize) {
+pub(crate) fn steps_first(name: &[u8], out: &[u8], length: usize) {
     if length <= out.len() {
         steps(name, &out[..length]);
     }
 }
 
 // A plan for each of the lines, which stands between what is before and what is behind it. The line is the vector's name.
-pub fn plans_with(before: &[u8], lines: &[u8], behind: &[u8]) {
+pub(crate) fn plans_with(before: &[u8], lines: &[u8], behind: &[u8]) {
     let mut at = 0;
     while at < lines.len() {
         let e = text::find(lines, at, b'\n');
@@ -71,7 +71,7 @@ fn plan_in(out: &mut [u8], before: &[u8], line: &[u8], behind: &[u8]) {
 }
 
 // Each of the lines as a steps text of its own. The line is the vector's name.
-pub fn steps_each(lines: &[u8]) {
+pub(crate) fn steps_each(lines: &[u8]) {
     let mut at = 0;
     while at < lines.len() {
         let e = text::find(lines, at, b'\n');

@@ -2,7 +2,7 @@
 use super::show::steps;
 use super::show::steps_each;
 
-pub fn all() {
+pub(crate) fn all() {
     runs();
     arrivals();
     bytes();
