@@ -49,7 +49,8 @@ pub enum Signal {
     Unlink,
 }
 
-// An op (instruction) by its number in document 01's table; the fields that it does not have as operands are not read.
+// An op (instruction) by its number in document 01's table; the fields that it does not have as operands are not read. The value stands
+// last, so that an op takes 16 bytes and not 20.
 pub struct Op {
     pub number: u8,
     pub r: u8,
@@ -57,9 +58,9 @@ pub struct Op {
     pub target: u8,
     // A trap flag, a count of clauses or a clause's kind.
     pub small: u8,
-    pub value: Value,
     pub process: ProcessNumber,
     pub behaviour: BehaviourNumber,
+    pub value: Value,
 }
 
 // Closing is an exiting process that has still to tell its links.
