@@ -53,6 +53,10 @@ one n a = go (sound n) refl (rule n a)
     go true e (done m) = refl
     go false e x = refl
 
+pub step-31 : (n : Node) (a : Action) → sound n ≡ false → record { node = n; refusal = 31 } ≡ steppedBy n (step n a)
+unfolding step
+step-31 n a h = rw h
+
 -- a step is acceptable exactly where the play of it alone accepts one
 module _ (n : Node) (a : Action) where
   alone : (x : Answer Node) → playsOn n x (λ m. record { accepted = 0; refusal = 0; node = m }) .accepted ≡ cond (isDone x) 1 0
@@ -116,8 +120,8 @@ module _ (n : Node) (s : Step) (k : ℕ) (encoded : decode k ≡ s) where
   unfolding actionOf
   action-of = rw encoded
 
-  pub step-played : (r : Answered) → playedOf r ≡ play n (map actionOf (k ∷ [])) → record { refusal = r .refusal; node = r .node } ≡ steppedBy n (step n (meaning s))
-  step-played r h = ap (stepped n) h ∙ rw action-of (one n (meaning s))
+  pub step-played : Sound n → (r : Answered) → playedOf r ≡ played n (map actionOf (k ∷ [])) → record { node = r .node; refusal = r .refusal } ≡ steppedBy n (step n (meaning s))
+  step-played ok r h = ap (stepped n) (h ∙ play-on n (map actionOf (k ∷ [])) ok (omega arith)) ∙ rw action-of (one n (meaning s))
 
   module _ (r : Answered) (h : playedOf r ≡ played n (map actionOf (k ∷ []))) where
     count-is : r .accepted ≡ played n (meaning s ∷ []) .accepted

@@ -20,16 +20,17 @@ use node::ProcessNumber;
 use node::Step;
 use node::Value;
 
-// What a play tells: how many steps were accepted, the refusal that ended it (0 if none), and the node then.
+// What a play tells: how many steps were accepted, the refusal that ended it (0 if none), and the node then. The node stands first: with
+// no gap before it, the compiler leaves out copies of it.
 pub struct Played {
-    pub accepted: usize,
-    pub refusal: u8,
     pub node: Node,
+    pub refusal: u8,
+    pub accepted: usize,
 }
 
 pub struct Stepped {
-    pub refusal: u8,
     pub node: Node,
+    pub refusal: u8,
 }
 
 // A step that would be accepted, or none where no step would be; Unsound is refusal 31.
@@ -42,15 +43,22 @@ pub enum Suggestion {
 // The most steps of a schedule.
 const LONGEST: usize = 4096;
 
-// A step of a node: 31, then what the rules say. A refusal leaves the node.
+// A step of a node: 31, then what the rules say. A refusal leaves the node. It calls the loop itself and not `play`, which would copy the
+// node once more.
 pub fn step(n: Node, s: Step) -> Stepped
     ensures { λ r. ⌜ r ≡ steppedBy n (step n (meaning s)) ⌝ }
 {
-    let numbers = [encode(s)];
-    let r = play(n, &numbers);
-    let refusal = r.refusal;
-    let node = r.node;
-    Stepped { refusal, node }
+    if soundness::sound(n) {
+        let numbers = [encode(s)];
+        let r = play_core(n, &numbers);
+        let node = r.node;
+        let refusal = r.refusal;
+        return Stepped { node, refusal };
+    }
+    Stepped {
+        node: n,
+        refusal: 31,
+    }
 }
 
 // A schedule, a number for each step: 31, 32, then the steps until one is refused.

@@ -92,7 +92,13 @@ pub fn search(clauses: [Op; 8], n: u8, mail: Mailbox) -> Found
     let mut found = Found::Nothing;
     let mut i: u8 = 0;
     'messages: while i < count {
-        let m = mail.message_at(i);
+        // Read in place: a call of `message_at` would copy the mailbox for each message.
+        let mut m = Message::Plain(Value::ZERO);
+        if i < 16 {
+            let x = i as usize;
+            let slot = mail.slots[x];
+            m = slot.message;
+        }
         let mut k: u8 = 0;
         while k < limit {
             let at = k as usize;
