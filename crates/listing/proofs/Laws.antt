@@ -1,29 +1,26 @@
 -- Laws of the listing's text, in the form in which its writers meet them. Assumes nothing.
---   left-process left-row left-pair   a turn of the loops over processes, over rows and over pairs; with -end, their ends
+--   left-process left-processes-end   a turn and the end of the loop over processes
 --   told-short told-whole             a buffer that is shorter than the listing, and one that holds it
 --   list-refused list-allowed         a node that is not sound, and one that is
 use mathlib.Core.Bool.{Bool, true, false}
-use mathlib.Core.List.{List, [], map}
-use mathlib.Core.Path.{_≡_, refl, ap, _∙_}
-use Prim.Native.Nat.{ℕ, _+_, _*_, _-_, _≤_, _<_}
+use mathlib.Core.List.{List}
+use mathlib.Core.Path.{_≡_, ap, _∙_}
+use Prim.Native.Nat.{ℕ, _+_, _≤_, _<_}
 use native.Mathlib.Nat.{add-sub-cancel-left}
 use borrow.Author.Tests.{lt-ltb, le-ltb}
 use lib.ListN.{length, drop, getD, drop-of-length-le}
 use Rattle.node.specs.declared.Node.{Node}
-use Rattle.node.specs.declared.Signal.{Signal}
-use Rattle.node.specs.Nodes.{noProcess, noMailbox, noRow}
-use Rattle.node.specs.Rows.{signals}
+use Rattle.node.specs.Nodes.{noProcess, noMailbox}
 use Rattle.rules.proofs.All.{made-at}
 use Rattle.rules.specs.Answers.{notSound}
-use Rattle.rules.specs.Nodes.{process, mailbox, row, unborn, standing, view, sound}
-use Rattle.rules.specs.Values.{numbers}
+use Rattle.rules.specs.Nodes.{process, mailbox, unborn, standing, view, sound}
 use Rattle.text.proofs.Writing.{Left, left-more, left-none, wrote-whole, counted-length}
 use Rattle.text.specs.Writing.{top, Wrote}
 use Rattle.listing_lines.proofs.Laws.{drop-next}
-use Rattle.listing_lines.specs.Lines.{eachFrom, standingText, pairText}
+use Rattle.listing_lines.specs.Lines.{eachFrom, standingText}
 use Rattle.listing.specs.Answers.{outputShort, refusedWith, told, shown, listTold, listShown}
 use Rattle.listing.specs.declared.Listed.{Listed}
-use Rattle.listing.specs.Listing.{rowsText, listingOf}
+use Rattle.listing.specs.Listing.{listingOf}
 
 -- ---- a loop that writes the texts of elements with their numbers, one at a turn
 module _ {X : Type 0} (f : ℕ → X → List ℕ) (xs : List X) (k : ℕ) {o text m : List ℕ} {a e : ℕ} (p : Left o a text m e (eachFrom f (k + 1) (drop k xs))) where
@@ -43,22 +40,7 @@ module _ (n : Node) (k : ℕ) (h : k < 16) where
       made-at (λ (i : ℕ). standing (process n i) (mailbox n i)) 1 16 k unborn h
       ∙ ap (λ (j : ℕ). standing (getD (n .processes) j noProcess) (getD (n .mail) j noMailbox)) (add-sub-cancel-left 1 k)
 
-  rows-at : getD (view n .flight) k [] ≡ map (λ (i : ℕ). signals (getD (n .flight) (16 * k + (i - 1)) noRow)) numbers
-  unfolding view
-  rows-at =
-      made-at (λ (j : ℕ). map (λ (i : ℕ). signals (row n j i)) numbers) 1 16 k [] h
-      ∙ ap (λ (j : ℕ). map (λ (i : ℕ). signals (getD (n .flight) (16 * j + (i - 1)) noRow)) numbers) (add-sub-cancel-left 1 k)
-
-  row-at : (i : ℕ) → i < 16 → getD (getD (view n .flight) k []) i [] ≡ signals (getD (n .flight) (16 * k + i) noRow)
-  row-at i g =
-      ap (λ (rows : List (List Signal)). getD rows i []) rows-at
-      ∙ made-at (λ (j : ℕ). signals (getD (n .flight) (16 * k + (j - 1)) noRow)) 1 16 i [] g
-      ∙ ap (λ (j : ℕ). signals (getD (n .flight) (16 * k + j) noRow)) (add-sub-cancel-left 1 i)
-
-  rows-length : length (getD (view n .flight) k []) ≡ 16
-  rows-length = ap length rows-at
-
--- ---- the loops over processes, over the rows of each process, and over the pairs of process j + 1
+-- ---- the loop over processes
 module _ (n : Node) (k : ℕ) {o text m : List ℕ} {a e : ℕ} where
   pub left-process : Left o a text m e (eachFrom standingText (k + 1) (drop k (view n .processes))) → {u : List ℕ} {r : ℕ} → k < 16
       → Wrote m e (standingText (k + 1) (standing (getD (n .processes) k noProcess) (getD (n .mail) k noMailbox))) u r
@@ -69,23 +51,6 @@ module _ (n : Node) (k : ℕ) {o text m : List ℕ} {a e : ℕ} where
   pub left-processes-end : Left o a text m e (eachFrom standingText (k + 1) (drop k (view n .processes))) → 16 ≤ k → Wrote o a text m e
   unfolding view
   left-processes-end p h = left-numbered-end standingText (view n .processes) k p h
-
-  pub left-row : Left o a text m e (eachFrom rowsText (k + 1) (drop k (view n .flight))) → {u : List ℕ} {r : ℕ} → k < 16
-      → Wrote m e (rowsText (k + 1) (getD (view n .flight) k [])) u r → Left o a text u r (eachFrom rowsText (k + 1 + 1) (drop (k + 1) (view n .flight)))
-  unfolding view
-  left-row p h q = left-numbered rowsText (view n .flight) k p [] _ h refl q
-
-  pub left-rows-end : Left o a text m e (eachFrom rowsText (k + 1) (drop k (view n .flight))) → 16 ≤ k → Wrote o a text m e
-  unfolding view
-  left-rows-end p h = left-numbered-end rowsText (view n .flight) k p h
-
-  module _ (j : ℕ) (g : j < 16) (p : Left o a text m e (eachFrom (pairText (j + 1)) (k + 1) (drop k (getD (view n .flight) j [])))) where
-    pub left-pair : {u : List ℕ} {r : ℕ} → k < 16 → Wrote m e (pairText (j + 1) (k + 1) (signals (getD (n .flight) (16 * j + k) noRow))) u r
-        → Left o a text u r (eachFrom (pairText (j + 1)) (k + 1 + 1) (drop (k + 1) (getD (view n .flight) j [])))
-    left-pair h q = left-numbered (pairText (j + 1)) (getD (view n .flight) j []) k p [] _ (rw (rows-length n j g) h) (row-at n j g k h) q
-
-    pub left-pairs-end : 16 ≤ k → Wrote o a text m e
-    left-pairs-end h = left-numbered-end (pairText (j + 1)) (getD (view n .flight) j []) k p (rw (rows-length n j g) h)
 
 -- ---- the answer
 module _ (o text : List ℕ) where

@@ -1,3 +1,4 @@
 pub mod Laws
+pub mod Pairs
 pub mod Listings
 pub mod Examples

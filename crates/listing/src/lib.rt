@@ -3,10 +3,7 @@
 use listing_lines::put_pair;
 use listing_lines::put_process;
 use node::Node;
-ghost use mathlib.Core.List.{[]};
 ghost use mathlib.Core.Path.{_≡_};
-ghost use Prim.Native.Nat.{_+_, _<_};
-ghost use lib.ListN.{getD};
 ghost use Rattle.rules.specs.Nodes.{view};
 ghost use Rattle.text.specs.Writing.{Wrote};
 ghost use Rattle.listing_lines.specs.Lines.{eachFrom, standingText};
@@ -76,28 +73,20 @@ fn put_processes(out: &mut [u8], at: usize, n: Node) -> usize
     e
 }
 
+// All pairs in one loop, sixteen for each sender; a call for each sender would copy the node sixteen times.
 fn put_flights(out: &mut [u8], at: usize, n: Node) -> usize
     ensures { λ e. ⌜ Wrote (now (out .entry)) at (eachFrom rowsText 1 (view n .flight)) (now (out .exit)) e ⌝ }
 {
     let mut e = at;
     let mut k = 0;
-    while k < 16 {
-        e = put_flights_from(out, e, n, k);
-        k += 1;
-    }
-    e
-}
-
-// The pairs of the process that stands at `from` in the array of all.
-fn put_flights_from(out: &mut [u8], at: usize, n: Node, from: usize) -> usize
-    requires { ⌜ from < 16 ⌝ }
-    ensures { λ e. ⌜ Wrote (now (out .entry)) at (rowsText (from + 1) (getD (view n .flight) from [])) (now (out .exit)) e ⌝ }
-{
-    let mut e = at;
-    let mut k = 0;
-    while k < 16 {
-        let pair = 16 * from + k;
-        e = put_pair(out, e, (from as u64) + 1, (k as u64) + 1, n.flight[pair]);
+    while k < 256 {
+        e = put_pair(
+            out,
+            e,
+            (k / 16 + 1) as u64,
+            (k % 16 + 1) as u64,
+            n.flight[k],
+        );
         k += 1;
     }
     e

@@ -1,0 +1,54 @@
+-- The pairs in flight, one behind the other: sixteen for each sender. Assumes nothing.
+--   pairAt n k                 the text of the pair that stands at k
+--   flight-pairs               the text of all rows is that of the pairs
+--   left-pair left-pairs-end   a turn and the end of the loop over pairs
+use mathlib.Core.List.{List, [], _∷_, _++_, append-assoc}
+use mathlib.Core.Path.{_≡_, refl, sym, _∙_, ap}
+use Prim.Native.Nat.{ℕ, zero, suc, _+_, _-_, _*_, _/_, _%_, _≤_, _<_}
+use native.Mathlib.Nat.{zero-add}
+use native.Mathlib.Omega.{arith}
+use lib.ListN.{drop, getD}
+use Rattle.node.specs.declared.Node.{Node}
+use Rattle.node.specs.Lists.{rising}
+use Rattle.node.specs.Nodes.{noRow}
+use Rattle.node.specs.Rows.{signals}
+use Rattle.node.proofs.Lists.{rising-append}
+use Rattle.rules.proofs.All.{made-at}
+use Rattle.rules.specs.Nodes.{view}
+use Rattle.text.proofs.Writing.{Left, left-item, left-end}
+use Rattle.text.specs.Writing.{Wrote, each}
+use Rattle.listing_lines.specs.Lines.{eachFrom, pairText}
+use Rattle.listing.specs.Listing.{rowsText}
+
+abbrev pub pairAt : Node → ℕ → List ℕ
+pairAt n k = pairText (k / 16 + 1) (k % 16 + 1) (signals (getD (n .flight) k noRow))
+
+each-append : {X : Type 0} (f : X → List ℕ) (l r : List X) → each f (l ++ r) ≡ each f l ++ each f r
+unfolding each
+each-append f [] r = refl
+each-append f (x ∷ l) r = ap (λ (t : List ℕ). f x ++ t) (each-append f l r) ∙ sym (append-assoc (f x) (each f l) (each f r))
+
+-- blocks of sixteen, one behind the other
+each-blocks : (f : ℕ → List ℕ) (a n : ℕ) → each (λ (j : ℕ). each f (rising (16 * (j - 1)) 16)) (rising (a + 1) n) ≡ each f (rising (16 * a) (n * 16))
+unfolding each
+each-blocks f a zero = refl
+each-blocks f a (suc n) =
+    let s : suc n * 16 ≡ 16 + n * 16 = omega arith in
+    let r : 16 * a + 16 ≡ 16 * (a + 1) = omega arith in
+    let q : 16 * (a + 1 - 1) ≡ 16 * a = omega arith in
+    rw (s, rising-append (16 * a) 16 (n * 16), each-append f (rising (16 * a) 16) (rising (16 * a + 16) (n * 16)), r, q, each-blocks f (a + 1) n)
+
+pub flight-pairs : (n : Node) → eachFrom rowsText 1 (view n .flight) ≡ each (pairAt n) (rising 0 256)
+unfolding view rowsText eachFrom each
+flight-pairs n = each-blocks (pairAt n) 0 16
+
+-- number k of those that rise from 0
+rising-at : (k : ℕ) → k < 256 → getD (rising 0 256) k 0 ≡ k
+rising-at k h = made-at (λ (i : ℕ). i) 0 256 k 0 h ∙ zero-add k
+
+module _ (n : Node) (k : ℕ) {o text m : List ℕ} {a e : ℕ} (p : Left o a text m e (each (pairAt n) (drop k (rising 0 256)))) where
+  pub left-pair : {u : List ℕ} {r : ℕ} → k < 256 → Wrote m e (pairAt n k) u r → Left o a text u r (each (pairAt n) (drop (k + 1) (rising 0 256)))
+  left-pair h q = left-item (pairAt n) (rising 0 256) k p 0 h (rw (rising-at k h) q)
+
+  pub left-pairs-end : 256 ≤ k → Wrote o a text m e
+  left-pairs-end h = left-end (pairAt n) (rising 0 256) k p h
