@@ -1,15 +1,15 @@
--- Where no line is told of 14, every op is well placed. Assumes nothing.
-use mathlib.Core.Bool.{Bool, true, false, So, cond}
+-- Where no line is told of 14, every op is well placed; and behaviours that are sound have no such line. Assumes nothing.
+use mathlib.Core.Bool.{Bool, true, false, So, cond, _&&_}
 use mathlib.Core.List.{List, [], _∷_}
 use mathlib.Core.Path.{_≡_, refl}
 use Prim.Native.Nat.{ℕ, _+_, _<_}
 use native.Mathlib.Omega.{arith}
 use borrow.Author.Tests.{eqb-true, eqb-false}
-use lib.Dec.{eqb}
+use lib.Dec.{eqb, leb}
 use lib.ListN.{length}
 use Rattle.node.specs.Lists.{allFrom, allOf}
-use Rattle.rules.specs.Behaviours.{Instruction, wellPlaced}
-use Rattle.rules.proofs.All.{both}
+use Rattle.rules.specs.Behaviours.{Instruction, codeSound, inRange, wellPlaced}
+use Rattle.rules.proofs.All.{both, parts}
 use Rattle.placement.specs.Misplaced.{misplacedIn, misplacedFrom, orElse}
 
 in-none : (code : List Instruction) (t n : ℕ) (xs : List Instruction) → 0 < n → misplacedIn code t n xs ≡ 0 → So (allFrom (wellPlaced code) t xs)
@@ -34,3 +34,19 @@ misplaced-none n [] h = refl
 misplaced-none n (code ∷ codes) h =
     let w = or-none (misplacedIn code 0 (n + 1) code) (misplacedFrom (n + 1 + length code) codes) h in
     both (in-none code 0 (n + 1) code (omega arith) (w .0)) (misplaced-none (n + 1 + length code) codes (w .1))
+
+in-sound : (code : List Instruction) (c l t n : ℕ) (xs : List Instruction) → So (allFrom (λ t x. inRange c l x && wellPlaced code t x) t xs) → misplacedIn code t n xs ≡ 0
+unfolding misplacedIn
+in-sound code c l t n [] h = refl
+in-sound code c l t n (x ∷ xs) h =
+    let w = parts (inRange c l x && wellPlaced code t x) _ h in
+    rw (parts (inRange c l x) _ (w .0) .1) (in-sound code c l (t + 1) (n + 1) xs (w .1))
+
+pub misplaced-sound : (c n : ℕ) (codes : List (List Instruction)) → So (allOf (codeSound c) codes) → misplacedFrom n codes ≡ 0
+unfolding misplacedFrom codeSound
+misplaced-sound c n [] h = refl
+misplaced-sound c n (code ∷ codes) h =
+    let w = parts (codeSound c code) _ h in
+    let placed : Bool = allFrom (λ t x. inRange c (length code) x && wellPlaced code t x) 0 code in
+    let first : misplacedIn code 0 (n + 1) code ≡ 0 = in-sound code c (length code) 0 (n + 1) code (parts (leb 1 (length code) && leb (length code) 32) placed (w .0) .1) in
+    rw (first, misplaced-sound c (n + 1 + length code) codes (w .1))

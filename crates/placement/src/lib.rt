@@ -8,10 +8,14 @@ ghost use Rattle.rules.specs.Behaviours.{due, hasClauses, instruction, targetsF
 ghost use Rattle.behaviours.specs.Codes.{codeIn, codesIn};
 ghost use Rattle.placement.specs.Misplaced.{firstCode, misplacedIn, misplacedFrom};
 
-// The line of the first op that is not well placed; 0 where there is none.
+// The line of the first op that is not well placed; 0 where there is none. Sound behaviours have none: that is one pass, and the walk
+// below, which copies the ops, is left to plans that are refused.
 pub fn misplaced(count: u8, lens: [u8; 8], ops: [Op; 256]) -> usize
     ensures { λ r. ⌜ r ≡ misplacedFrom firstCode (codesIn count lens ops) ⌝ }
 {
+    if behaviours::behaviours_sound(count, lens, ops) {
+        return 0;
+    }
     let mut line: usize = 3;
     let mut k: u8 = 0;
     while k < count {
