@@ -1,0 +1,28 @@
+-- What the calls for the benchmark tell: each does its work a number of times and tells the last answer.
+--   after rounds before x   x, or `before` where there was no round
+--   playedBy plan steps     what a play tells of the node of a plan text and the steps of a steps text; a refused plan text
+--                           gives the blank node, a refused steps text no steps
+--   reachedBy plan steps    the node behind that play
+--   soundIn rounds n        how many of the rounds find n sound
+use mathlib.Core.Bool.{cond}
+use mathlib.Core.List.{List}
+use Prim.Native.Nat.{ℕ}
+use lib.Dec.{eqb}
+use Rattle.controller.specs.Program.{steps}
+use Rattle.node.specs.declared.Node.{Node}
+use Rattle.plan.specs.Plans.{loadOf}
+use Rattle.rules.specs.Nodes.{sound}
+use Rattle.rules.specs.Steps.{Played, play}
+use Rattle.schedule.specs.Reading.{scheduleOf}
+
+unfoldable pub after : {A : Type 0} → ℕ → A → A → A
+after rounds before x = cond (eqb rounds 0) before x
+
+abbrev pub playedBy : List ℕ → List ℕ → Played
+playedBy planText stepsText = play (loadOf planText .node) (steps (scheduleOf stepsText))
+
+abbrev pub reachedBy : List ℕ → List ℕ → Node
+reachedBy planText stepsText = playedBy planText stepsText .node
+
+unfoldable pub soundIn : ℕ → Node → ℕ
+soundIn rounds n = cond (sound n) rounds 0
