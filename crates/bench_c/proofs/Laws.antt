@@ -1,5 +1,5 @@
 -- What the loops over the rounds keep. Assumes nothing.
---   played-by                                  a play of what was loaded and read
+--   of-texts                                   what is made of a node and steps, made of what was loaded and read
 --   Turn rounds before x i y                   i of the rounds are done, and the answer is y
 --   turn-first turn-next turn-last             it holds at first, is kept by a round that answers x, and gives the answer at the end
 --   Said rounds n i s                          i of the rounds are done, and s of them found n sound
@@ -15,13 +15,13 @@ use Rattle.node.specs.declared.Node.{Node}
 use Rattle.plan.specs.declared.Loaded.{Loaded}
 use Rattle.plan.specs.Plans.{loadOf}
 use Rattle.rules.specs.Nodes.{sound}
-use Rattle.rules.specs.Steps.{play}
+use Rattle.rules.specs.Steps.{Action}
 use Rattle.schedule.specs.declared.Schedule.{Schedule}
 use Rattle.schedule.specs.Reading.{scheduleOf}
-use Rattle.bench_c.specs.Rounds.{after, playedBy, soundIn}
+use Rattle.bench_c.specs.Rounds.{after, soundIn}
 
-pub played-by : (p q : List ℕ) {l : Loaded} {s : Schedule} → l ≡ loadOf p → s ≡ scheduleOf q → play (l .node) (steps s) ≡ playedBy p q
-played-by p q loaded read = rw (loaded, read)
+pub of-texts : {A : Type 0} (f : Node → List Action → A) (p q : List ℕ) {l : Loaded} {s : Schedule} → l ≡ loadOf p → s ≡ scheduleOf q → f (l .node) (steps s) ≡ f (loadOf p .node) (steps (scheduleOf q))
+of-texts f p q loaded read = rw (loaded, read)
 
 -- ---- the last answer
 

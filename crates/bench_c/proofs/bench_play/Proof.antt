@@ -1,10 +1,10 @@
 -- `bench_play` plays what it loaded and read. Assumes nothing.
-use mathlib.Core.Path.{_∙_, ap}
+use mathlib.Core.Path.{_∙_}
 use borrow.Author.Needs.{needs}
 use Rattle.controller.proofs.Room.{count-room, count-taken}
-use Rattle.rules.specs.Steps.{Played}
+use Rattle.rules.specs.Steps.{play}
 use Rattle.bench_c.specs.Rounds.{after}
-use Rattle.bench_c.proofs.Laws.{played-by}
+use Rattle.bench_c.proofs.Laws.{of-texts}
 use Rattle.bench_c.proofs.bench_play.Statement.{statement}
 use Rattle.bench_c.proofs.bench_play.Tie as tie
 
@@ -35,7 +35,7 @@ returns c =
     let its-read = c .before .before .before .before .read in
     let its-load = c .before .before .before .before .before .load in
     let its-args = c .before .before .before .before .before .before .before .before .args in
-    its-plays .ensures ∙ ap (λ (r : Played). after (its-args .rounds) 0 (r .accepted)) (played-by (its-args .plan .now) (its-args .steps .now) (its-load .ensures) (its-read .ensures))
+    its-plays .ensures ∙ of-texts (λ n l. after (its-args .rounds) 0 (play n l .accepted)) (its-args .plan .now) (its-args .steps .now) (its-load .ensures) (its-read .ensures)
 
 pub bench-play-spec : {M : Type 1} → statement M
 bench-play-spec =
