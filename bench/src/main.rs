@@ -1,48 +1,73 @@
-//! Measures the proved library beside the second interpreter. `bench` prints tables as Markdown.
+//! Measures the proved library beside the second interpreter.
+//!   bench                             prints tables as Markdown
+//!   bench one WHAT MIX STEPS ROUNDS   one call of a play, `proved` or `plain`, for a tool that counts instructions
+//!   bench stack CALL KILOBYTES        a trial of limits.rs
+//!   bench memory CALL                 a trial of limits.rs
 
+mod bars;
+mod inputs;
+mod limits;
 mod measure;
 mod mixes;
+mod plain;
 mod proved;
+mod tables;
 
-use measure::round;
-use mixes::{Case, MIXES};
-use std::hint::black_box;
+use bars::Bars;
+use mixes::MIXES;
+use std::env;
+use std::process::exit;
 
-const SIZES: [usize; 3] = [64, 512, 4096];
-
-/// Both interpreters print the same, and accept all steps.
-fn check(case: &Case, count: usize) {
-    let mut out = vec![0; open_controller::OUTPUT];
-    let length = open_controller::simulate(&case.plan, &case.steps, &mut out).expect("the buffer holds every answer");
-    assert_eq!(out[..length], second::simulate(&case.plan, &case.steps)[..], "the interpreters differ");
-    let expected = format!("accepted={count}\nrefused=0\n");
-    assert!(out.starts_with(expected.as_bytes()), "{}", String::from_utf8_lossy(&out[..40]));
+fn report() {
+    let mut bars = Bars::default();
+    tables::plays(&mut bars);
+    tables::steps(&mut bars);
+    tables::loads(&mut bars);
+    tables::reads();
+    tables::nodes();
+    tables::simulations(&mut bars);
+    limits::tables(&mut bars);
+    bars.print();
 }
 
-fn play_tables() {
-    println!("| mix | steps | proved, ns a step | plain, ns a step | ratio |");
-    println!("|---|---|---|---|---|");
-    for mix in MIXES {
-        for count in SIZES {
-            let case = (mix.case)(count);
-            check(&case, count);
-            let rounds = 65_536 / count;
-            let proved = round(rounds, |rounds| {
-                black_box(proved::play(&case.plan, &case.steps, rounds));
-            }) / count as f64;
-            let node = second::plan::load(&case.plan).unwrap();
-            let schedule = second::steps::read(&case.steps).unwrap();
-            let plain = round(rounds, |rounds| {
-                for _ in 0..rounds {
-                    let mut node = black_box(&node).clone();
-                    black_box(second::play(&mut node, &schedule, None));
-                }
-            }) / count as f64;
-            println!("| {} | {count} | {proved:.1} | {plain:.1} | {:.2} |", mix.name, proved / plain);
+/// One call of a play; tells whether the words name one.
+fn one(what: &str, mix: &str, count: usize, rounds: usize) -> bool {
+    let Some(mix) = MIXES.iter().find(|known| known.name == mix) else {
+        return false;
+    };
+    let case = (mix.case)(count);
+    match what {
+        "proved" => proved::play(&case, rounds) == count,
+        "plain" => {
+            plain::Loaded::new(&case).play(rounds);
+            true
         }
+        _ => false,
     }
 }
 
+fn number(word: &str) -> usize {
+    word.parse().unwrap_or_else(|_| {
+        eprintln!("bench: {word} is no number");
+        exit(2)
+    })
+}
+
 fn main() {
-    play_tables();
+    let words: Vec<String> = env::args().skip(1).collect();
+    let words: Vec<&str> = words.iter().map(String::as_str).collect();
+    let good = match words[..] {
+        [] => {
+            report();
+            true
+        }
+        ["one", what, mix, count, rounds] => one(what, mix, number(count), number(rounds)),
+        ["stack", call, kilobytes] => limits::stack_child(call.to_string(), number(kilobytes)),
+        ["memory", call] => limits::memory_child(call),
+        _ => false,
+    };
+    if !good {
+        eprintln!("bench: no such call, or a wrong answer: {}", words.join(" "));
+        exit(1);
+    }
 }

@@ -36,11 +36,11 @@ pub fn plan(behaviours: &[Vec<String>], starts: &[usize]) -> Vec<u8> {
     text.into_bytes()
 }
 
-fn ops(texts: &[&str]) -> Vec<String> {
+pub fn ops(texts: &[&str]) -> Vec<String> {
     texts.iter().map(|text| text.to_string()).collect()
 }
 
-fn run(process: usize) -> String {
+pub fn run(process: usize) -> String {
     format!("run={process}\n")
 }
 
@@ -117,7 +117,7 @@ fn exchange(done: usize) -> Vec<String> {
         steps.extend([run(odd), arrive(odd + 1, odd)]);
     }
     steps.push(run(odd + 1));
-    if (done / 4 + 1) % GROUPS == 0 {
+    if (done / 4 + 1).is_multiple_of(GROUPS) {
         steps.push(run(odd));
     }
     steps
@@ -154,7 +154,7 @@ fn mail(count: usize, waiting: &str, clauses: [&str; 8]) -> Case {
     let filling = [run(1), run(1)].into_iter().chain((0..15).flat_map(|_| [run(1), arrive(2, 1)])).chain([run(1)]);
     let exchange = |done: usize| {
         let mut steps = vec![run(1), arrive(2, 1), run(2)];
-        if (done + 1) % SENDS == 0 {
+        if (done + 1).is_multiple_of(SENDS) {
             steps.push(run(1));
         }
         steps

@@ -7,7 +7,7 @@ ghost use Rattle.rules.specs.Steps.{play};
 ghost use Rattle.bench_c.specs.Rounds.{after, soundIn, singly};
 use node::Node;
 
-pub fn sounds(n: Node, rounds: usize) -> usize
+pub(crate) fn sounds(n: Node, rounds: usize) -> usize
     ensures { λ r. ⌜ r ≡ soundIn rounds n ⌝ }
 {
     let mut said: usize = 0;
@@ -21,7 +21,7 @@ pub fn sounds(n: Node, rounds: usize) -> usize
     said
 }
 
-pub fn plays(n: Node, numbers: &[u32], rounds: usize) -> usize
+pub(crate) fn plays(n: Node, numbers: &[u32], rounds: usize) -> usize
     ensures { λ r. ⌜ r ≡ after rounds 0 (play n (map actionOf (now (numbers .entry))) .accepted) ⌝ }
 {
     let mut last: usize = 0;
@@ -34,7 +34,7 @@ pub fn plays(n: Node, numbers: &[u32], rounds: usize) -> usize
     last
 }
 
-pub fn plays_lent(n: Node, numbers: &[u32], rounds: usize) -> usize
+pub(crate) fn plays_lent(n: Node, numbers: &[u32], rounds: usize) -> usize
     ensures { λ r. ⌜ r ≡ after rounds 0 (play n (map actionOf (now (numbers .entry))) .accepted) ⌝ }
 {
     let mut last: usize = 0;
@@ -47,7 +47,7 @@ pub fn plays_lent(n: Node, numbers: &[u32], rounds: usize) -> usize
     last
 }
 
-pub fn steps_singly(n: Node, numbers: &[u32], rounds: usize) -> usize
+pub(crate) fn steps_singly(n: Node, numbers: &[u32], rounds: usize) -> usize
     ensures { λ r. ⌜ r ≡ after rounds 0 (singly n (map actionOf (now (numbers .entry)))) ⌝ }
 {
     let mut last: usize = 0;
@@ -59,7 +59,7 @@ pub fn steps_singly(n: Node, numbers: &[u32], rounds: usize) -> usize
     last
 }
 
-pub fn lists(n: Node, out: &mut [u8], rounds: usize) -> usize
+pub(crate) fn lists(n: Node, out: &mut [u8], rounds: usize) -> usize
     ensures answer { λ r. ⌜ r ≡ after rounds 0 (listTold n (now (out .entry)) .length) ⌝ }
     ensures buffer { λ r. ⌜ now (out .exit) ≡ after rounds (now (out .entry)) (listShown n (now (out .entry))) ⌝ }
 {
