@@ -4,6 +4,7 @@ struct Bar {
     what: String,
     figure: f64,
     most: f64,
+    /// With the space in front of it; a ratio has none.
     unit: &'static str,
 }
 
@@ -24,7 +25,7 @@ impl Bars {
         println!("|---|---|---|---|");
         for bar in &self.bars {
             let met = if bar.figure <= bar.most { "yes" } else { "no" };
-            println!("| {} | {:.2} {unit} | {} {unit} | {met} |", bar.what, bar.figure, bar.most, unit = bar.unit);
+            println!("| {} | {:.2}{unit} | {}{unit} | {met} |", bar.what, bar.figure, bar.most, unit = bar.unit);
         }
         println!();
     }

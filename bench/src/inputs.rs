@@ -40,8 +40,8 @@ pub fn lines(count: usize) -> Vec<u8> {
     b"arrive=255,255\n".repeat(count)
 }
 
-/// All places of all behaviours in use, and sixteen processes that have sent to fifteen each: first one message, which has arrived,
-/// then four that are in flight.
+/// All places of all behaviours are in use, and each of sixteen processes has sent to fifteen: first one message, which has arrived, then
+/// four that are in flight. A code of 32 places has no room for the sixteenth.
 pub fn full() -> Case {
     let mut code = ops(&["set,3,i-2147483648"]);
     for to in 2..=16 {

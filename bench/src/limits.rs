@@ -88,7 +88,7 @@ pub fn tables(bars: &mut Bars) {
         let stack = least_stack(name);
         println!("| {name} | {} | {stack} |", most_memory(name));
         if name != "none" {
-            bars.add(format!("stack of {name}"), stack as f64, 512.0, "KB");
+            bars.add(format!("stack of {name}"), stack as f64, 512.0, " KB");
         }
     }
     println!();

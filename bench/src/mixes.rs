@@ -68,7 +68,7 @@ const GROUPS: usize = 9;
 
 /// Four pairs: an odd process links to the next, sends it an exit signal and unlinks, and the next traps and receives the note. At
 /// the end process 9 kills each odd process while it is linked, which then closes; process 10 fills up to the count.
-fn links(count: usize) -> Case {
+pub fn links(count: usize) -> Case {
     let linking = |odd: usize| {
         let mut code = ops(&[&format!("set,1,p{}", odd + 1), "set,2,a9"]);
         for _ in 0..GROUPS {

@@ -3,7 +3,7 @@
 use crate::bars::Bars;
 use crate::inputs;
 use crate::measure::{rounds, Call};
-use crate::mixes::{Case, MIXES};
+use crate::mixes::{links, Case, MIXES};
 use crate::plain::{self, Loaded};
 use crate::proved;
 use std::hint::black_box;
@@ -52,7 +52,7 @@ pub fn plays(bars: &mut Bars) {
     println!("## play: time a step\n");
     println!("`engine::play` on a loaded node, by the mix and the count of steps, all of which are accepted. A play looks at the soundness");
     println!("of its node once and copies it; the plain Rust plays on a copy too. A further step is the difference between 4,096 and 512");
-    println!("steps; the fixed cost is what a play of 64 steps takes beyond 64 further steps.\n");
+    println!("steps; the fixed cost is what a play of 64 steps takes beyond 64 further steps. The bars are held against 4,096 steps.\n");
     println!("| mix | steps | proved, ns a step | plain Rust, ns a step | ratio |");
     println!("|---|---|---|---|---|");
     let runs = runs(&SIZES);
@@ -66,7 +66,7 @@ pub fn plays(bars: &mut Bars) {
         let (step, plain) = (pair[0] / run.count as f64, pair[1] / run.count as f64);
         println!("| {} | {} | {step:.1} | {plain:.1} | {:.2} |", run.mix, run.count, step / plain);
         if run.count == 4096 {
-            bars.add(format!("play, {}, 4,096 steps: time a step", run.mix), step, 50.0, "ns");
+            bars.add(format!("play, {}, 4,096 steps: time a step", run.mix), step, 50.0, " ns");
             bars.add(format!("play, {}, 4,096 steps: ratio to plain Rust", run.mix), step / plain, 3.0, "");
         }
     }
@@ -105,7 +105,7 @@ pub fn steps(bars: &mut Bars) {
             println!("| {name} | {} | {} | {step:.1} | {plain:.1} | {:.2} |", run.mix, run.count, step / plain);
             slowest = slowest.max(step);
         }
-        bars.add(format!("{name}, the slowest of the table: time a step"), slowest / 1e3, most, "µs");
+        bars.add(format!("{name}, the slowest of the table: time a step"), slowest / 1e3, most, " µs");
     }
     println!();
 }
@@ -144,7 +144,7 @@ pub fn loads(bars: &mut Bars) {
         row("load", name, plan.len(), pair);
         slowest = slowest.max(pair[0]);
     }
-    bars.add("load, the slowest of the table".to_string(), slowest / 1e6, 1.0, "ms");
+    bars.add("load, the slowest of the table".to_string(), slowest / 1e6, 1.0, " ms");
     println!();
 }
 
@@ -168,11 +168,12 @@ pub fn reads() {
 
 pub fn nodes() {
     println!("## sound and list: time a node\n");
-    println!("The bytes are those of the node's listing. The second interpreter has no test of soundness.\n");
+    println!("The bytes are those of the node's listing. Nearly full are 15 mailboxes of 16 messages and 240 pairs of 4 signals. The second");
+    println!("interpreter has no test of soundness.\n");
     heads();
     let cases = [
         ("one process", inputs::small()),
-        ("links, 512 steps", (MIXES[1].case)(512)),
+        ("links, 512 steps", links(512)),
         ("nearly full", inputs::full()),
     ];
     let loaded: Vec<Loaded> = cases.iter().map(|(_, case)| Loaded::new(case)).collect();
@@ -224,6 +225,6 @@ pub fn simulations(bars: &mut Bars) {
         row("simulate", name, case.plan.len() + case.steps.len(), pair);
         slowest = slowest.max(pair[0]);
     }
-    bars.add("simulate, the slowest of the table".to_string(), slowest / 1e6, 10.0, "ms");
+    bars.add("simulate, the slowest of the table".to_string(), slowest / 1e6, 10.0, " ms");
     println!();
 }
