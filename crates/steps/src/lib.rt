@@ -74,7 +74,7 @@ fn decoded(numbers: &[u32]) -> [Step; 4097]
 }
 
 // The step that a number stands for.
-fn step_of(number: u32) -> Step
+pub fn step_of(number: u32) -> Step
     ensures { λ r. ⌜ r ≡ decode number ⌝ }
 {
     let owner = ((number / 256) % 256) as u8;

@@ -1,0 +1,73 @@
+//! Measures the proved library beside the second interpreter.
+//!   bench                             prints tables as Markdown
+//!   bench one WHAT MIX STEPS ROUNDS   one call of a play, `proved` or `plain`, for a tool that counts instructions
+//!   bench stack CALL KILOBYTES        a trial of limits.rs
+//!   bench memory CALL                 a trial of limits.rs
+
+mod bars;
+mod inputs;
+mod limits;
+mod measure;
+mod mixes;
+mod plain;
+mod proved;
+mod tables;
+
+use bars::Bars;
+use mixes::MIXES;
+use std::env;
+use std::process::exit;
+
+fn report() {
+    let mut bars = Bars::default();
+    tables::plays(&mut bars);
+    tables::steps(&mut bars);
+    tables::loads(&mut bars);
+    tables::reads();
+    tables::nodes();
+    tables::simulations(&mut bars);
+    limits::tables(&mut bars);
+    bars.print();
+}
+
+/// One call of a play; tells whether the words name one.
+fn one(what: &str, mix: &str, count: usize, rounds: usize) -> bool {
+    let Some(mix) = MIXES.iter().find(|known| known.name == mix) else {
+        return false;
+    };
+    let case = (mix.case)(count);
+    match what {
+        "proved" => proved::play(&case, rounds) == count,
+        "plain" => {
+            plain::Loaded::new(&case).play(rounds);
+            true
+        }
+        _ => false,
+    }
+}
+
+fn number(word: &str) -> usize {
+    word.parse().unwrap_or_else(|_| {
+        eprintln!("bench: {word} is no number");
+        exit(2)
+    })
+}
+
+fn main() {
+    let words: Vec<String> = env::args().skip(1).collect();
+    let words: Vec<&str> = words.iter().map(String::as_str).collect();
+    let good = match words[..] {
+        [] => {
+            report();
+            true
+        }
+        ["one", what, mix, count, rounds] => one(what, mix, number(count), number(rounds)),
+        ["stack", call, kilobytes] => limits::stack_child(call.to_string(), number(kilobytes)),
+        ["memory", call] => limits::memory_child(call),
+        _ => false,
+    };
+    if !good {
+        eprintln!("bench: no such call, or a wrong answer: {}", words.join(" "));
+        exit(1);
+    }
+}
