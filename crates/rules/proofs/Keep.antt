@@ -41,7 +41,7 @@ use Rattle.rules.specs.Receive.{Fit, fits, firstClause, search, kept, re
 use Rattle.rules.specs.Run.{setsRegister, jumpsIf, adds, compares, toProcess, toOther, spawns, opTable, runsOp, lowest, closesTo, closes, runsLive, runsIn, runs}
 use Rattle.rules.specs.Steps.{isUnborn}
 use Rattle.rules.specs.Values.{numbers, isNumber, fitsInt, valueSound, messageSound, sameValue}
-use Rattle.rules.proofs.All.{both, parts, allFrom-at, allOf-at, allOf-map, map-at, allTwo-at}
+use Rattle.rules.proofs.All.{both, parts, allFrom-at, allOf-at, allOf-map, map-at, allTwo-at, Each, each-at}
 use Rattle.rules.proofs.Firsts.{firsts-joined, firsts-left, set-false}
 use Rattle.rules.proofs.Records.{number-bounds}
 
@@ -620,25 +620,17 @@ module _ (codes : List (List Instruction)) (i : ℕ) (number : So (isNumber i)) 
       (search-fit OnTarget (take (here .small) (drop (t + 1) ops)) (clause-target e) 0 (messages (st .mail)) (a .mailed .sound))
 
   -- the table, entry by entry: what an entry needs is known where it is the one that is run
-  Each : ℕ → List (Answer Effect) → Type 0
-  Each k [] = Unit {0}
-  Each k (x ∷ l) = (here .number ≡ k → OK x) × Each (suc k) l
-
-  each-at : (k : ℕ) (l : List (Answer Effect)) (d : Answer Effect) → Each k l → OK d → (j : ℕ) → here .number ≡ k + j → OK (getD l j d)
-  unfolding Each
-  each-at k [] d h g zero e = g
-  each-at k [] d h g (suc j) e = g
-  each-at k (x ∷ l) d h g zero e = h .0 (e ∙ omega arith)
-  each-at k (x ∷ l) d h g (suc j) e = each-at (suc k) l d (h .1) g j (e ∙ omega arith)
+  Entry : ℕ → Answer Effect → Type 0
+  Entry k x = here .number ≡ k → OK x
 
   runsOp-good : OK (runsOp ops i st here)
-  unfolding runsOp Each kindsOf operand operandInRange
+  unfolding runsOp Each Entry kindsOf operand operandInRange
   runsOp-good =
       let r = register p (here .r) in
       let s = register p (here .s) in
       let rOk = register-good (here .r) in
       let sOk = register-good (here .s) in
-      each-at 0 (opTable ops i st here) (ends st r) (
+      each-at Entry 0 (opTable ops i st here) (ends st r) (
         (λ e. sets-good (other-op 0 e refl) (here .r) (here .value) (in-range (length codes) ops checked t inside 0 1 e (omega arith))),
         (
           (λ e. sets-good (other-op 1 e refl) (here .r) s sOk),
@@ -684,7 +676,7 @@ module _ (codes : List (List Instruction)) (i : ℕ) (number : So (isNumber i)) 
           ),
         ),
       )
-      (ends-here r rOk)
+      (λ j e. ends-here r rOk)
       (here .number) (omega arith)
 
 -- ---- running

@@ -8,6 +8,7 @@ pub mod Trace
 pub mod Commute
 pub mod Order
 pub mod Paths
+pub mod Told
 pub mod Suggest
 pub mod Sample
 pub mod Witness
