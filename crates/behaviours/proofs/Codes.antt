@@ -2,9 +2,9 @@
 use mathlib.Core.Bool.{Bool, true, false, _&&_, _||_, not, cond, and-assoc}
 use mathlib.Core.List.{List, [], _∷_, map}
 use mathlib.Core.Path.{_≡_, refl, sym, _∙_, ap}
-use Prim.Native.Nat.{ℕ, zero, suc, _+_, _-_, _*_, _≤_, _<_}
+use Prim.Native.Nat.{ℕ, _+_, _-_, _*_, _≤_, _<_}
 use native.Mathlib.Omega.{arith}
-use borrow.Author.Tests.{eqb-true, lt-ltb}
+use borrow.Author.Tests.{eqb-true}
 use lib.Dec.{eqb, leb}
 use lib.ListN.{length, getD, drop, List·getD-eq-default}
 use lib.Seq.{getD-drop}
@@ -13,7 +13,7 @@ use Rattle.node.specs.Lists.{allFrom, allOf}
 use Rattle.node.specs.Nodes.{noOp}
 use Rattle.node.specs.Ops.{kindsOf}
 use Rattle.node.proofs.Lists.{allFrom-both, allFrom-same, allOf-from, allTwo-map, getD-in, held-at, held-length, map-rising-at, map-rising-length}
-use Rattle.rules.specs.Behaviours.{Instruction, clauseCount, codeSound, inRange, instruction, noInstruction, numeric, onClause, operand, operandInRange, targetsFree, wellPlaced}
+use Rattle.rules.specs.Behaviours.{Instruction, clauseCount, codeSound, inRange, instruction, noInstruction, numeric, onClause, operand, targetsFree, wellPlaced}
 use Rattle.behaviours.specs.Codes.{codeIn, codesIn, hasTarget, opsSound, placed}
 
 -- ---- ops
@@ -22,31 +22,6 @@ use Rattle.behaviours.specs.Codes.{codeIn, codesIn, hasTarget, opsSound,
 pub clause-count : (o : Op) → o .number ≡ 10 → clauseCount (instruction o) ≡ o .small
 unfolding instruction operand kindsOf
 clause-count o e = ap (λ (n : ℕ). getD (map (operand o) (kindsOf n)) 0 (numeric 0) .number) e
-
--- an arm of a `match` on the kind of an operand
-pub kind-is : (o : Op) (c n kind k : ℕ) → kind ≡ k → operandInRange c n k (operand o k) ≡ operandInRange c n kind (operand o kind)
-kind-is o c n kind k e = sym (ap (λ (x : ℕ). operandInRange c n x (operand o x)) e)
-
--- none of the kinds 1 to k: what the last arm knows
-abbrev Past : ℕ → ℕ → Type 0
-Past zero kind = Unit {0}
-Past (suc k) kind = Past k kind × (kind ≡ suc k → ⊥)
-
-past : (k kind : ℕ) → Past k kind → 0 < kind → k < kind
-past zero kind h p = p
-past (suc k) kind h p = let l : k < kind = past k kind (h .0) p in let d : kind ≡ suc k → ⊥ = h .1 in omega arith
-
-pub kind-past : (o : Op) (c n kind : ℕ) → Past 9 kind → true ≡ operandInRange c n kind (operand o kind)
-unfolding operandInRange
-kind-past o c n zero h = refl
-kind-past o c n (suc k) h =
-    let p : 9 < suc k = past 9 (suc k) h (omega arith) in
-    kind-is o c n (suc k) (suc (suc (suc (suc (suc (suc (suc (suc (suc (suc (k - 9))))))))))) (omega arith)
-
--- the operands of an op, by their kinds
-pub in-range-by : (o : Op) (c n : ℕ) → o .number < 16 → allOf (λ (k : ℕ). operandInRange c n k (operand o k)) (kindsOf (o .number)) ≡ inRange c n (instruction o)
-unfolding inRange instruction
-in-range-by o c n h = rw (lt-ltb (o .number) 16 h) (sym (allTwo-map (operandInRange c n) (operand o) (kindsOf (o .number))))
 
 -- ---- a behaviour
 
