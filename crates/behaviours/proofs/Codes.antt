@@ -1,20 +1,20 @@
 -- What the code reads of the ops of a node is what the plan's rules read of its behaviours. Assumes nothing.
-use mathlib.Core.Bool.{Bool, true, false, _&&_, _||_, not, cond, and-assoc}
+use mathlib.Core.Bool.{Bool, true, false, _&&_, _||_, not, cond}
 use mathlib.Core.List.{List, [], _∷_, map}
 use mathlib.Core.Path.{_≡_, refl, sym, _∙_, ap}
 use Prim.Native.Nat.{ℕ, _+_, _-_, _*_, _≤_, _<_}
 use native.Mathlib.Omega.{arith}
 use borrow.Author.Tests.{eqb-true}
-use lib.Dec.{eqb, leb}
+use lib.Dec.{eqb}
 use lib.ListN.{length, getD, drop, List·getD-eq-default}
 use lib.Seq.{getD-drop}
 use Rattle.node.specs.declared.Op.{Op}
-use Rattle.node.specs.Lists.{allFrom, allOf}
+use Rattle.node.specs.Lists.{allOf}
 use Rattle.node.specs.Nodes.{noOp}
 use Rattle.node.specs.Ops.{kindsOf}
-use Rattle.node.proofs.Lists.{allFrom-both, allFrom-same, allOf-from, allTwo-map, getD-in, held-at, held-length, map-rising-at, map-rising-length}
-use Rattle.rules.specs.Behaviours.{Instruction, clauseCount, codeSound, inRange, instruction, noInstruction, numeric, onClause, operand, targetsFree, wellPlaced}
-use Rattle.behaviours.specs.Codes.{codeIn, codesIn, hasTarget, opsSound, placed}
+use Rattle.node.proofs.Lists.{allTwo-map, getD-in, held-at, held-length, map-rising-at, map-rising-length}
+use Rattle.rules.specs.Behaviours.{Instruction, clauseCount, instruction, noInstruction, numeric, onClause, operand, targetsFree}
+use Rattle.behaviours.specs.Codes.{codeIn, codesIn, hasTarget}
 
 -- ---- ops
 
@@ -76,20 +76,12 @@ target-to n ops k o to e =
     ∙ ap (λ (m : ℕ). not (onClause (codeIn n ops k) (cond (hasTarget (o .number)) (o .target) m))) (code-length n ops k)
     ∙ ap (λ (u : ℕ). not (onClause (codeIn n ops k) u)) (sym e)
 
-pub target-at : (n : ℕ) (ops : List Op) (k t to : ℕ) → t < n → to ≡ cond (hasTarget (getD ops (32 * k + t) noOp .number)) (getD ops (32 * k + t) noOp .target) n → targetsFree (codeIn n ops k) (getD (codeIn n ops k) t (instruction noOp)) ≡ not (onClause (codeIn n ops k) to)
-target-at n ops k t to h e = ap (targetsFree (codeIn n ops k)) (code-at n ops k t h) ∙ target-to n ops k (getD ops (32 * k + t) noOp) to e
+module _ (n : ℕ) (ops : List Op) (k : ℕ) (o : Op) {to : ℕ} (by : to ≡ cond (hasTarget (o .number)) (o .target) n) where
+  pub lands-end : n ≤ to → true ≡ targetsFree (codeIn n ops k) (instruction o)
+  lands-end h = sym (target-to n ops k o to by ∙ ap not (on-clause-end (codeIn n ops k) to (omega (arith, code-length n ops k))))
 
--- the rules of a behaviour, in the two loops that test them
-split-op : (c n : ℕ) (code : List Instruction) (t : ℕ) (x : Instruction) → (inRange c n x && wellPlaced code t x) ≡ (inRange c n x && placed code t x && targetsFree code x)
-unfolding wellPlaced placed
-split-op c n code t x = sym (and-assoc (inRange c n x) _ (targetsFree code x))
-
-pub code-sound-by : (c n : ℕ) (code : List Instruction) → length code ≡ n → codeSound c code ≡ (leb 1 n && leb n 32 && (opsSound c n code && allOf (targetsFree code) code))
-unfolding codeSound opsSound
-code-sound-by c n code e =
-    let f : ℕ → Instruction → Bool = λ t x. inRange c n x && placed code t x in
-    let g : ℕ → Instruction → Bool = λ t x. targetsFree code x in
-    rw (e, allFrom-same (λ t x. inRange c n x && wellPlaced code t x) (λ t x. f t x && g t x) (split-op c n code) 0 code, allFrom-both f g 0 code, allOf-from (targetsFree code) 0 code)
+  pub lands-at : {x : Op} → to < n → x ≡ getD ops (32 * k + to) noOp → not (eqb (x .number) 11) ≡ targetsFree (codeIn n ops k) (instruction o)
+  lands-at h e = sym (target-to n ops k o to by ∙ ap not (on-clause-at n ops k to h) ∙ ap (λ (y : Op). not (eqb (y .number) 11)) (sym e))
 
 -- ---- all behaviours
 

@@ -3,3 +3,4 @@ pub mod Codes
 pub mod Clauses
 pub mod Values
 pub mod Operands
+pub mod Pass

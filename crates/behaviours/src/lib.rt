@@ -1,92 +1,50 @@
 // Behaviours by the plan's rules: 12, each operand in range, and 14, clauses and targets where they belong.
 ghost use mathlib.Core.Bool.{_&&_, cond};
 ghost use mathlib.Core.Path.{_≡_};
-ghost use Prim.Native.Nat.{_≤_, _<_};
 ghost use lib.Dec.{eqb, leb};
-ghost use lib.ListN.{getD};
 ghost use Rattle.node.specs.Lists.{allOf};
 ghost use Rattle.node.specs.Values.{intZero};
-ghost use Rattle.rules.specs.Behaviours.{codeSound, dueNext, inRange, instruction, targetsFree};
+ghost use Rattle.rules.specs.Behaviours.{codeSound, dueNext, inRange, instruction};
 ghost use Rattle.rules.specs.Values.{isNumber, valueSound};
-ghost use Rattle.behaviours.specs.Codes.{codeIn, codesIn, hasTarget, opsSound, placedBy};
+ghost use Rattle.behaviours.specs.Codes.{codesIn, hasTarget, placedBy};
 use node::Op;
 use node::Value;
 
-// All behaviours, of which there are `count`.
+// All behaviours, of which there are `count`, in one loop over their ops: a call that takes `ops` copies 4 KB.
 pub fn behaviours_sound(count: u8, lens: [u8; 8], ops: [Op; 256]) -> bool
     ensures { λ r. ⌜ r ≡ (leb 1 count && leb count 8 && allOf (codeSound count) (codesIn count lens ops)) ⌝ }
 {
     if !within(count, 1, 8) {
         return false;
     }
-    let mut k: u8 = 0;
-    while k < count {
-        if !code_sound(count, lens, ops, k) {
+    let mut b: usize = 0;
+    let mut t: u8 = 0;
+    let mut due: u8 = 0;
+    while b < count as usize {
+        let len = lens[b];
+        if !within(len, 1, 32) {
             return false;
         }
-        k += 1;
-    }
-    true
-}
-
-// The behaviour that stands at k.
-pub fn code_sound(count: u8, lens: [u8; 8], ops: [Op; 256], k: u8) -> bool
-    ensures { λ r. ⌜ r ≡ codeSound count (codeIn (getD lens k 0) ops k) ⌝ }
-{
-    if 8 <= k {
-        return false;
-    }
-    let at = k as usize;
-    let len = lens[at];
-    if !within(len, 1, 32) {
-        return false;
-    }
-    if !ops_sound(count, len, ops, at) {
-        return false;
-    }
-    targets_free(len, ops, at)
-}
-
-// Each op in range, and a clause exactly where one is due; behind the last op none is.
-fn ops_sound(count: u8, len: u8, ops: [Op; 256], k: usize) -> bool
-    requires { ⌜ (k < 8) × (len ≤ 32) ⌝ }
-    ensures { λ r. ⌜ r ≡ opsSound count len (codeIn len ops k) ⌝ }
-{
-    let base = 32 * k;
-    let mut due: u8 = 0;
-    let mut t: u8 = 0;
-    while t < len {
-        let at = base + (t as usize);
-        let op = ops[at];
+        let op = ops[32 * b + (t as usize)];
         if !op_sound(op, count, len, due) {
             return false;
         }
+        let to = landing(op, len);
+        if to < len {
+            if ops[32 * b + (to as usize)].number == 11 {
+                return false;
+            }
+        }
         due = due_next(due, op);
         t += 1;
-    }
-    due == 0
-}
-
-// No op leads to a clause.
-fn targets_free(len: u8, ops: [Op; 256], k: usize) -> bool
-    requires { ⌜ (k < 8) × (len ≤ 32) ⌝ }
-    ensures { λ r. ⌜ r ≡ allOf (targetsFree (codeIn len ops k)) (codeIn len ops k) ⌝ }
-{
-    let base = 32 * k;
-    let mut t: u8 = 0;
-    while t < len {
-        let at = base + (t as usize);
-        let op = ops[at];
-        let to = landing(op, len);
-        t += 1;
-        if len <= to {
+        if t < len {
             continue;
         }
-        let there = base + (to as usize);
-        let target = ops[there];
-        if target.number == 11 {
+        if due != 0 {
             return false;
         }
+        t = 0;
+        b += 1;
     }
     true
 }
