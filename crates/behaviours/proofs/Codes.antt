@@ -1,20 +1,20 @@
 -- What the code reads of the ops of a node is what the plan's rules read of its behaviours. Assumes nothing.
-use mathlib.Core.Bool.{Bool, true, false, _&&_, _||_, not, cond, and-assoc}
+use mathlib.Core.Bool.{Bool, true, false, _&&_, _||_, not, cond}
 use mathlib.Core.List.{List, [], _∷_, map}
 use mathlib.Core.Path.{_≡_, refl, sym, _∙_, ap}
-use Prim.Native.Nat.{ℕ, zero, suc, _+_, _-_, _*_, _≤_, _<_}
+use Prim.Native.Nat.{ℕ, _+_, _-_, _*_, _≤_, _<_}
 use native.Mathlib.Omega.{arith}
-use borrow.Author.Tests.{eqb-true, lt-ltb}
-use lib.Dec.{eqb, leb}
+use borrow.Author.Tests.{eqb-true}
+use lib.Dec.{eqb}
 use lib.ListN.{length, getD, drop, List·getD-eq-default}
 use lib.Seq.{getD-drop}
 use Rattle.node.specs.declared.Op.{Op}
-use Rattle.node.specs.Lists.{allFrom, allOf}
+use Rattle.node.specs.Lists.{allOf}
 use Rattle.node.specs.Nodes.{noOp}
 use Rattle.node.specs.Ops.{kindsOf}
-use Rattle.node.proofs.Lists.{allFrom-both, allFrom-same, allOf-from, allTwo-map, getD-in, held-at, held-length, map-rising-at, map-rising-length}
-use Rattle.rules.specs.Behaviours.{Instruction, clauseCount, codeSound, inRange, instruction, noInstruction, numeric, onClause, operand, operandInRange, targetsFree, wellPlaced}
-use Rattle.behaviours.specs.Codes.{codeIn, codesIn, hasTarget, opsSound, placed}
+use Rattle.node.proofs.Lists.{allTwo-map, getD-in, held-at, held-length, map-rising-at, map-rising-length}
+use Rattle.rules.specs.Behaviours.{Instruction, clauseCount, instruction, noInstruction, numeric, onClause, operand, targetsFree}
+use Rattle.behaviours.specs.Codes.{codeIn, codesIn, hasTarget}
 
 -- ---- ops
 
@@ -22,31 +22,6 @@ use Rattle.behaviours.specs.Codes.{codeIn, codesIn, hasTarget, opsSound,
 pub clause-count : (o : Op) → o .number ≡ 10 → clauseCount (instruction o) ≡ o .small
 unfolding instruction operand kindsOf
 clause-count o e = ap (λ (n : ℕ). getD (map (operand o) (kindsOf n)) 0 (numeric 0) .number) e
-
--- an arm of a `match` on the kind of an operand
-pub kind-is : (o : Op) (c n kind k : ℕ) → kind ≡ k → operandInRange c n k (operand o k) ≡ operandInRange c n kind (operand o kind)
-kind-is o c n kind k e = sym (ap (λ (x : ℕ). operandInRange c n x (operand o x)) e)
-
--- none of the kinds 1 to k: what the last arm knows
-abbrev Past : ℕ → ℕ → Type 0
-Past zero kind = Unit {0}
-Past (suc k) kind = Past k kind × (kind ≡ suc k → ⊥)
-
-past : (k kind : ℕ) → Past k kind → 0 < kind → k < kind
-past zero kind h p = p
-past (suc k) kind h p = let l : k < kind = past k kind (h .0) p in let d : kind ≡ suc k → ⊥ = h .1 in omega arith
-
-pub kind-past : (o : Op) (c n kind : ℕ) → Past 9 kind → true ≡ operandInRange c n kind (operand o kind)
-unfolding operandInRange
-kind-past o c n zero h = refl
-kind-past o c n (suc k) h =
-    let p : 9 < suc k = past 9 (suc k) h (omega arith) in
-    kind-is o c n (suc k) (suc (suc (suc (suc (suc (suc (suc (suc (suc (suc (k - 9))))))))))) (omega arith)
-
--- the operands of an op, by their kinds
-pub in-range-by : (o : Op) (c n : ℕ) → o .number < 16 → allOf (λ (k : ℕ). operandInRange c n k (operand o k)) (kindsOf (o .number)) ≡ inRange c n (instruction o)
-unfolding inRange instruction
-in-range-by o c n h = rw (lt-ltb (o .number) 16 h) (sym (allTwo-map (operandInRange c n) (operand o) (kindsOf (o .number))))
 
 -- ---- a behaviour
 
@@ -101,20 +76,12 @@ target-to n ops k o to e =
     ∙ ap (λ (m : ℕ). not (onClause (codeIn n ops k) (cond (hasTarget (o .number)) (o .target) m))) (code-length n ops k)
     ∙ ap (λ (u : ℕ). not (onClause (codeIn n ops k) u)) (sym e)
 
-pub target-at : (n : ℕ) (ops : List Op) (k t to : ℕ) → t < n → to ≡ cond (hasTarget (getD ops (32 * k + t) noOp .number)) (getD ops (32 * k + t) noOp .target) n → targetsFree (codeIn n ops k) (getD (codeIn n ops k) t (instruction noOp)) ≡ not (onClause (codeIn n ops k) to)
-target-at n ops k t to h e = ap (targetsFree (codeIn n ops k)) (code-at n ops k t h) ∙ target-to n ops k (getD ops (32 * k + t) noOp) to e
+module _ (n : ℕ) (ops : List Op) (k : ℕ) (o : Op) {to : ℕ} (by : to ≡ cond (hasTarget (o .number)) (o .target) n) where
+  pub lands-end : n ≤ to → true ≡ targetsFree (codeIn n ops k) (instruction o)
+  lands-end h = sym (target-to n ops k o to by ∙ ap not (on-clause-end (codeIn n ops k) to (omega (arith, code-length n ops k))))
 
--- the rules of a behaviour, in the two loops that test them
-split-op : (c n : ℕ) (code : List Instruction) (t : ℕ) (x : Instruction) → (inRange c n x && wellPlaced code t x) ≡ (inRange c n x && placed code t x && targetsFree code x)
-unfolding wellPlaced placed
-split-op c n code t x = sym (and-assoc (inRange c n x) _ (targetsFree code x))
-
-pub code-sound-by : (c n : ℕ) (code : List Instruction) → length code ≡ n → codeSound c code ≡ (leb 1 n && leb n 32 && (opsSound c n code && allOf (targetsFree code) code))
-unfolding codeSound opsSound
-code-sound-by c n code e =
-    let f : ℕ → Instruction → Bool = λ t x. inRange c n x && placed code t x in
-    let g : ℕ → Instruction → Bool = λ t x. targetsFree code x in
-    rw (e, allFrom-same (λ t x. inRange c n x && wellPlaced code t x) (λ t x. f t x && g t x) (split-op c n code) 0 code, allFrom-both f g 0 code, allOf-from (targetsFree code) 0 code)
+  pub lands-at : {x : Op} → to < n → x ≡ getD ops (32 * k + to) noOp → not (eqb (x .number) 11) ≡ targetsFree (codeIn n ops k) (instruction o)
+  lands-at h e = sym (target-to n ops k o to by ∙ ap not (on-clause-at n ops k to h) ∙ ap (λ (y : Op). not (eqb (y .number) 11)) (sym e))
 
 -- ---- all behaviours
 

@@ -11,5 +11,5 @@ failed {r} e t = sym e ∙ not-true r t
 pub passed : {r b : Bool} → r ≡ b → not r ≡ false → b ≡ true
 passed {r} e t = sym e ∙ not-false r t
 
-pub within-most : (n least most : ℕ) → (leb least n && leb n most) ≡ true → n ≤ most
-within-most n least most e = leb-true n most (and-eq-true-iff (leb least n) (leb n most) .0 e .1)
+pub within-is : (n least most : ℕ) → (leb least n && leb n most) ≡ true → (least ≤ n) × (n ≤ most)
+within-is n least most e = let h = and-eq-true-iff (leb least n) (leb n most) .0 e in (leb-true least n (h .0), leb-true n most (h .1))

@@ -2,20 +2,18 @@
 -- node says what it answers. For the arrays of one node, `codesIn` is the behaviours of its view.
 --   codeIn n ops k       the behaviour of n ops that stands at k, the first being 0
 --   codesIn c lens ops   the c behaviours
---   placed code t x      rule 14 of x, at place t, but for its target: a recv has its clauses, a clause is due
 --   placedBy k x         x is a clause exactly where one is due, k being due in all
---   opsSound c n code    12 and 14 of a behaviour of n ops, but for the targets
 --   hasTarget n          op n has a place among its operands
-use mathlib.Core.Bool.{Bool, _&&_, _||_, not, cond}
+use mathlib.Core.Bool.{Bool, not, cond}
 use mathlib.Core.List.{List, map}
-use Prim.Native.Nat.{ℕ, _+_, _-_, _*_}
+use Prim.Native.Nat.{ℕ, _-_, _*_}
 use lib.Dec.{eqb, ltb}
-use lib.ListN.{getD, take, drop}
+use lib.ListN.{getD, drop}
 use Rattle.node.specs.declared.Op.{Op}
-use Rattle.node.specs.Lists.{firsts, rising, allFrom, allOf}
+use Rattle.node.specs.Lists.{firsts, rising, allOf}
 use Rattle.node.specs.Nodes.{noOp}
 use Rattle.node.specs.Ops.{kindsOf}
-use Rattle.rules.specs.Behaviours.{Instruction, clauseCount, due, hasClauses, inRange, instruction, isClause, isRecv}
+use Rattle.rules.specs.Behaviours.{Instruction, instruction, isClause}
 
 unfoldable pub codeIn : ℕ → List Op → ℕ → List Instruction
 codeIn n ops k = map instruction (firsts noOp n (drop (32 * k) ops))
@@ -23,14 +21,8 @@ codeIn n ops k = map instruction (firsts noOp n (drop (32 * k) ops))
 unfoldable pub codesIn : ℕ → List ℕ → List Op → List (List Instruction)
 codesIn c lens ops = map (λ b. codeIn (getD lens (b - 1) 0) ops (b - 1)) (rising 1 c)
 
-unfoldable pub placed : List Instruction → ℕ → Instruction → Bool
-placed code t x = (not (isRecv x) || hasClauses (clauseCount x) (drop (t + 1) code)) && (not (isClause x) || ltb 0 (due 0 (take t code)))
-
 unfoldable pub placedBy : ℕ → Instruction → Bool
 placedBy k x = cond (isClause x) (ltb 0 k) (eqb k 0)
-
-unfoldable pub opsSound : ℕ → ℕ → List Instruction → Bool
-opsSound c n code = allFrom (λ t x. inRange c n x && placed code t x) 0 code
 
 unfoldable pub hasTarget : ℕ → Bool
 hasTarget n = not (allOf (λ kind. not (eqb kind 4)) (kindsOf n))

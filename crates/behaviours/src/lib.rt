@@ -1,92 +1,50 @@
 // Behaviours by the plan's rules: 12, each operand in range, and 14, clauses and targets where they belong.
 ghost use mathlib.Core.Bool.{_&&_, cond};
 ghost use mathlib.Core.Path.{_≡_};
-ghost use Prim.Native.Nat.{_≤_, _<_};
 ghost use lib.Dec.{eqb, leb};
-ghost use lib.ListN.{getD};
 ghost use Rattle.node.specs.Lists.{allOf};
 ghost use Rattle.node.specs.Values.{intZero};
-ghost use Rattle.rules.specs.Behaviours.{codeSound, dueNext, inRange, instruction, operand, operandInRange, targetsFree};
+ghost use Rattle.rules.specs.Behaviours.{codeSound, dueNext, inRange, instruction};
 ghost use Rattle.rules.specs.Values.{isNumber, valueSound};
-ghost use Rattle.behaviours.specs.Codes.{codeIn, codesIn, hasTarget, opsSound, placedBy};
+ghost use Rattle.behaviours.specs.Codes.{codesIn, hasTarget, placedBy};
 use node::Op;
 use node::Value;
 
-// All behaviours, of which there are `count`.
+// All behaviours, of which there are `count`, in one loop over their ops: a call that takes `ops` copies 4 KB.
 pub fn behaviours_sound(count: u8, lens: [u8; 8], ops: [Op; 256]) -> bool
     ensures { λ r. ⌜ r ≡ (leb 1 count && leb count 8 && allOf (codeSound count) (codesIn count lens ops)) ⌝ }
 {
     if !within(count, 1, 8) {
         return false;
     }
-    let mut k: u8 = 0;
-    while k < count {
-        if !code_sound(count, lens, ops, k) {
+    let mut b: usize = 0;
+    let mut t: u8 = 0;
+    let mut due: u8 = 0;
+    while b < count as usize {
+        let len = lens[b];
+        if !within(len, 1, 32) {
             return false;
         }
-        k += 1;
-    }
-    true
-}
-
-// The behaviour that stands at k.
-pub fn code_sound(count: u8, lens: [u8; 8], ops: [Op; 256], k: u8) -> bool
-    ensures { λ r. ⌜ r ≡ codeSound count (codeIn (getD lens k 0) ops k) ⌝ }
-{
-    if 8 <= k {
-        return false;
-    }
-    let at = k as usize;
-    let len = lens[at];
-    if !within(len, 1, 32) {
-        return false;
-    }
-    if !ops_sound(count, len, ops, at) {
-        return false;
-    }
-    targets_free(len, ops, at)
-}
-
-// Each op in range, and a clause exactly where one is due; behind the last op none is.
-fn ops_sound(count: u8, len: u8, ops: [Op; 256], k: usize) -> bool
-    requires { ⌜ (k < 8) × (len ≤ 32) ⌝ }
-    ensures { λ r. ⌜ r ≡ opsSound count len (codeIn len ops k) ⌝ }
-{
-    let base = 32 * k;
-    let mut due: u8 = 0;
-    let mut t: u8 = 0;
-    while t < len {
-        let at = base + (t as usize);
-        let op = ops[at];
+        let op = ops[32 * b + (t as usize)];
         if !op_sound(op, count, len, due) {
             return false;
         }
+        let to = landing(op, len);
+        if to < len {
+            if ops[32 * b + (to as usize)].number == 11 {
+                return false;
+            }
+        }
         due = due_next(due, op);
         t += 1;
-    }
-    due == 0
-}
-
-// No op leads to a clause.
-fn targets_free(len: u8, ops: [Op; 256], k: usize) -> bool
-    requires { ⌜ (k < 8) × (len ≤ 32) ⌝ }
-    ensures { λ r. ⌜ r ≡ allOf (targetsFree (codeIn len ops k)) (codeIn len ops k) ⌝ }
-{
-    let base = 32 * k;
-    let mut t: u8 = 0;
-    while t < len {
-        let at = base + (t as usize);
-        let op = ops[at];
-        let to = landing(op, len);
-        t += 1;
-        if len <= to {
+        if t < len {
             continue;
         }
-        let there = base + (to as usize);
-        let target = ops[there];
-        if target.number == 11 {
+        if due != 0 {
             return false;
         }
+        t = 0;
+        b += 1;
     }
     true
 }
@@ -134,56 +92,87 @@ pub fn landing(op: Op, len: u8) -> u8
 pub fn has_target(number: u8) -> bool
     ensures { λ r. ⌜ r ≡ hasTarget number ⌝ }
 {
-    let n = node::operand_count(number);
-    let mut k: u8 = 0;
-    while k < n {
-        if node::operand_kind(number, k) == 4 {
-            return true;
-        }
-        k += 1;
-    }
-    false
+    within(number, 11, 14)
 }
 
-// Each operand of an op in range, in a behaviour of `len` ops, of `count` behaviours.
+// Each operand of an op in range, in a behaviour of `len` ops, of `count` behaviours. The arms are the rows of the table of operands in
+// `node`: looking each operand up there takes longer.
 pub fn in_range(op: Op, count: u8, len: u8) -> bool
     ensures { λ r. ⌜ r ≡ inRange count len (instruction op) ⌝ }
 {
     let number = op.number;
-    if 16 <= number {
-        return false;
-    }
-    let n = node::operand_count(number);
-    let mut k: u8 = 0;
-    while k < n {
-        let kind = node::operand_kind(number, k);
-        if !operand_in_range(op, kind, count, len) {
-            return false;
+    let v = op.value;
+    let b = op.behaviour;
+    let q = op.process;
+    match number {
+        0 => register_and_value(op.r, v),
+        1 => registers(op.r, op.s),
+        2 => op.r <= 3,
+        3 => registers(op.r, op.s),
+        4 => registers(op.r, op.s),
+        5 => registers(op.r, op.s),
+        6 => op.r <= 3,
+        7 => op.r <= 3,
+        8 => op.small <= 1,
+        9 => register_and_numbers(op.r, b.0, q.0, count),
+        10 => within(op.small, 1, 8),
+        11 => {
+            if !clause_kind_sound(op.small, v) {
+                return false;
+            }
+            registers_and_place(op.r, op.s, op.target, len)
         }
-        k += 1;
+        12 => op.target <= len,
+        13 => {
+            if !register_and_value(op.r, v) {
+                return false;
+            }
+            op.target <= len
+        }
+        14 => registers_and_place(op.r, op.s, op.target, len),
+        15 => op.r <= 3,
+        _ => false,
     }
-    true
 }
 
-// The operand of one kind; the kinds are those of the table in `node`.
-pub fn operand_in_range(op: Op, kind: u8, count: u8, len: u8) -> bool
-    ensures { λ r. ⌜ r ≡ operandInRange count len kind (operand op kind) ⌝ }
+fn registers(r: u8, s: u8) -> bool
+    ensures { λ x. ⌜ x ≡ (leb r 3 && leb s 3) ⌝ }
 {
-    let v = op.value;
-    let q = op.process;
-    let b = op.behaviour;
-    match kind {
-        1 => op.r <= 3,
-        2 => op.s <= 3,
-        3 => value_sound(v),
-        4 => op.target <= len,
-        5 => within(b.0, 1, count),
-        6 => is_number(q.0),
-        7 => op.small <= 1,
-        8 => within(op.small, 1, 8),
-        9 => clause_kind_sound(op.small, v),
-        _ => true,
+    if 3 < r {
+        return false;
     }
+    s <= 3
+}
+
+fn registers_and_place(r: u8, s: u8, t: u8, len: u8) -> bool
+    ensures { λ x. ⌜ x ≡ (leb r 3 && leb s 3 && leb t len) ⌝ }
+{
+    if !registers(r, s) {
+        return false;
+    }
+    t <= len
+}
+
+fn register_and_value(r: u8, v: Value) -> bool
+    ensures { λ x. ⌜ x ≡ (leb r 3 && valueSound v) ⌝ }
+{
+    if 3 < r {
+        return false;
+    }
+    value_sound(v)
+}
+
+// The register, the behaviour and the process of a spawn.
+fn register_and_numbers(r: u8, b: u8, q: u8, count: u8) -> bool
+    ensures { λ x. ⌜ x ≡ (leb r 3 && (leb 1 b && leb b count) && isNumber q) ⌝ }
+{
+    if 3 < r {
+        return false;
+    }
+    if !within(b, 1, count) {
+        return false;
+    }
+    is_number(q)
 }
 
 // The kind of a clause; kind 5 has one exact value.

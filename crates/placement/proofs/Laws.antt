@@ -1,7 +1,6 @@
 -- Laws of rule 14 by the ops as they stand in a node, and of the walk that looks for the first op that breaks it. Assumes nothing.
 --   placed-recv placed-stray placed-due placed-other   rule 14 of an op, by its number
 --   clauses-few clauses-begin clause-stop clause-more clauses-end   the loop over the clauses of a recv
---   lands-end lands-at                    the place that an op leads to
 --   in-begin in-stop in-more in-end       the loop over the ops of a behaviour
 --   from-stop from-more from-end          the loop over the behaviours
 use mathlib.Core.Bool.{Bool, true, false, not, cond, and-true}
@@ -21,7 +20,7 @@ use Rattle.node.specs.Ops.{kindsOf}
 use Rattle.node.proofs.Lists.{all-more, all-stop, all-end, allOf-from}
 use Rattle.rules.specs.Behaviours.{Instruction, due, hasClauses, instruction, isClause, targetsFree, wellPlaced}
 use Rattle.behaviours.specs.Codes.{codeIn, hasTarget}
-use Rattle.behaviours.proofs.Codes.{clause-count, code-at, code-length, on-clause-at, on-clause-end, target-to}
+use Rattle.behaviours.proofs.Codes.{clause-count, code-at, code-length, on-clause-end, target-to}
 use Rattle.placement.specs.Misplaced.{misplacedIn, misplacedFrom}
 
 -- ---- one op
@@ -98,15 +97,6 @@ module _ (n : ℕ) (ops : List Op) (k t m : ℕ) where
       pub clauses-end : m ≤ i → true ≡ g
       unfolding rest
       clauses-end l = all-end (λ u x. isClause x) (take m rest) i i (instruction noOp) (omega (arith, clauses-length)) inv
-
--- ---- the target of an op
-
-module _ (n : ℕ) (ops : List Op) (k : ℕ) (o : Op) {to : ℕ} (by : to ≡ cond (hasTarget (o .number)) (o .target) n) where
-  pub lands-end : n ≤ to → true ≡ targetsFree (codeIn n ops k) (instruction o)
-  lands-end h = sym (target-to n ops k o to by ∙ ap not (on-clause-end (codeIn n ops k) to (omega (arith, code-length n ops k))))
-
-  pub lands-at : {x : Op} → to < n → x ≡ getD ops (32 * k + to) noOp → not (eqb (x .number) 11) ≡ targetsFree (codeIn n ops k) (instruction o)
-  lands-at h e = sym (target-to n ops k o to by ∙ ap not (on-clause-at n ops k to h) ∙ ap (λ (y : Op). not (eqb (y .number) 11)) (sym e))
 
 -- ---- the ops of a behaviour, the first of them on line f
 

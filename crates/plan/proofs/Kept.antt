@@ -16,7 +16,7 @@ use Rattle.rules.specs.Answers.{Answer, refused, done, need}
 use Rattle.rules.specs.Behaviours.{inRange, instruction}
 use Rattle.rules.specs.Values.{isNumber}
 use Rattle.rules.proofs.All.{both, allOf-append}
-use Rattle.behaviours.proofs.Codes.{in-range-by}
+use Rattle.behaviours.proofs.Operands.{in-range-by}
 use Rattle.text.specs.Parts.{Lines}
 use Rattle.plan_line.specs.declared.Start.{Start}
 use Rattle.plan_line.specs.Lines.{behavioursKey, codeKey, startsKey, answered, headerLine, countTold, countLine, opTold, opLine, startTold, startLine}

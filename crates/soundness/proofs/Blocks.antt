@@ -1,5 +1,5 @@
 -- The rows in flight, one after the other: sixteen for each sender. Assumes nothing.
-use mathlib.Core.Bool.{Bool}
+use mathlib.Core.Bool.{Bool, true}
 use mathlib.Core.List.{List, map}
 use mathlib.Core.Path.{_≡_, refl, sym, _∙_, ap}
 use Prim.Native.Nat.{ℕ, zero, suc, _+_, _-_, _*_, _/_, _%_, _≤_, _<_}
@@ -70,3 +70,7 @@ flight-rows rows e =
     ∙ all-blocks (rowAt rows) 0 16
     ∙ sym (allFrom-rising g (λ (k : ℕ). getD rows k noRow) 0 256)
     ∙ ap (allFrom g 0) (map-getD noRow rows 256 e)
+
+pub row-empty : (j i : ℕ) (r : Row) → r .count ≡ 0 → rowSound j i (signals r) ≡ true
+unfolding rowSound signals
+row-empty j i r e = rw e

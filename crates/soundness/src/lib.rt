@@ -1,4 +1,5 @@
-// Whether a node is sound (well-formed). The parts of a node are passed on their own, since a node by value is 25 KB.
+// Whether a node is sound (well-formed). What a call takes by value is copied: behaviours and processes are passed once, and the rows in
+// flight, which take 17 KB, are read in place.
 ghost use mathlib.Core.Path.{_≡_};
 ghost use Rattle.rules.specs.Nodes.{sound};
 use node::Node;
@@ -21,6 +22,18 @@ pub fn sound(n: Node) -> bool
     if !processes::processes_sound(count, lens, ops, processes, mail) {
         return false;
     }
-    let flight = n.flight;
-    flight::flight_sound(flight)
+    let mut k: usize = 0;
+    while k < 256 {
+        // an empty row is sound, and most rows are empty
+        if n.flight[k].count != 0 {
+            let row = n.flight[k];
+            let from = (k / 16 + 1) as u8;
+            let to = (k % 16 + 1) as u8;
+            if !flight::row_sound(from, to, row) {
+                return false;
+            }
+        }
+        k += 1;
+    }
+    true
 }

@@ -1,7 +1,7 @@
 -- `lands_free` gives `targetsFree` of an op. Assumes nothing.
 use native.Mathlib.Omega.{arith}
 use borrow.Author.Needs.{needs}
-use Rattle.placement.proofs.Laws.{lands-end, lands-at}
+use Rattle.behaviours.proofs.Codes.{lands-end, lands-at}
 use Rattle.placement.proofs.lands_free.Statement.{statement}
 use Rattle.placement.proofs.lands_free.Tie as tie
 
