@@ -5,7 +5,7 @@
 --   listed-unsound listed-short listed-whole a play with its listing: 31, 30, and what is told and shown
 use mathlib.Core.Bool.{Bool, true, false, cond}
 use mathlib.Core.List.{List, _++_}
-use mathlib.Core.Path.{_≡_, refl, _∙_, ap}
+use mathlib.Core.Path.{_≡_, refl, sym, _∙_, ap}
 use Prim.Native.Nat.{ℕ, _≤_}
 use native.Mathlib.Omega.{arith}
 use borrow.Author.Tests.{eq-eqb, ne-eqb}
@@ -19,6 +19,7 @@ use Rattle.listing.specs.Listing.{listingOf}
 use Rattle.node.specs.declared.Node.{Node}
 use Rattle.plan.specs.declared.Loaded.{Loaded}
 use Rattle.plan.specs.Plans.{loadOf}
+use Rattle.rules.proofs.Told.{told-31, not-told-31}
 use Rattle.rules.specs.Nodes.{sound}
 use Rattle.rules.specs.Steps.{Action, Played, play}
 use Rattle.schedule.specs.declared.Schedule.{Schedule}
@@ -54,20 +55,26 @@ told-within o t p = rw (p .0, p .1) (go (ltb (length o) (length t)))
     go true = omega arith
     go false = omega (arith, length-append t (drop (length t) o))
 
--- ---- a play with its listing; b is whether the node is sound
+-- ---- a play with its listing; r is what the play tells
 
-module _ (n : Node) (l : List Action) (o : List ℕ) {b : Bool} (is : b ≡ sound n) where
-  pub listed-unsound : b ≡ false → (unplayed n 31 ≡ playedListed n l o) × (o ≡ playedShown n l o)
+module _ (n : Node) (l : List Action) (o : List ℕ) (r : Answered) (plays : playedOf r ≡ play n l) where
+  refusal-is : r .refusal ≡ play n l .refusal
+  refusal-is = ap (λ (y : Played). y .refusal) plays
+
+  pub listed-unsound : r .refusal ≡ 31 → (unplayed n 31 ≡ playedListed n l o) × (o ≡ playedShown n l o)
   unfolding playedListed playedShown
-  listed-unsound h = (rw (← is, h), rw (← is, h))
+  listed-unsound h = let u = told-31 n l (sym refusal-is ∙ h) in (rw u, rw u)
 
-  module _ (sounds : b ≡ true) (r : Answered) (plays : playedOf r ≡ play n l) (x : Listed) (m : List ℕ) (lists : (x ≡ told o (listingOf (r .node))) × (m ≡ shown o (listingOf (r .node)))) where
+  module _ (other : r .refusal ≡ 31 → ⊥) (x : Listed) (m : List ℕ) (lists : (x ≡ told o (listingOf (r .node))) × (m ≡ shown o (listingOf (r .node)))) where
+    sounds : sound n ≡ true
+    sounds = not-told-31 n l (λ e. other (refusal-is ∙ e))
+
     node-is : r .node ≡ play n l .node
     node-is = ap (λ (y : Played). y .node) plays
 
     shown-is : m ≡ playedShown n l o
     unfolding playedShown
-    shown-is = rw (← is, sounds, ← node-is) (lists .1)
+    shown-is = rw (sounds, ← node-is) (lists .1)
 
     split : (b : Bool) → ltb (length o) (length (listingOf (r .node))) ≡ b → x ≡ cond b (refusedWith outputShort) (record { number = 0; length = length (listingOf (r .node)) })
     unfolding told
@@ -78,7 +85,7 @@ module _ (n : Node) (l : List Action) (o : List ℕ) {b : Bool} (is : b ≡ soun
     listed-short h = (go (ltb (length o) (length (listingOf (r .node)))) refl, shown-is)
       where
         go : (b : Bool) → ltb (length o) (length (listingOf (r .node))) ≡ b → unplayed n 30 ≡ playedListed n l o
-        go true e = rw (← is, sounds, ← node-is, e)
+        go true e = rw (sounds, ← node-is, e)
         go false e = absurd (h (ap (λ (y : Listed). y .number) (split false e)))
 
     pub listed-whole : x .number ≡ 0 → (record { accepted = r .accepted; refusal = r .refusal; length = x .length; node = r .node } ≡ playedListed n l o) × (m ≡ playedShown n l o)
@@ -90,4 +97,4 @@ module _ (n : Node) (l : List Action) (o : List ℕ) {b : Bool} (is : b ≡ soun
         go false e =
             let z : x .length ≡ length (listingOf (r .node)) = ap (λ (y : Listed). y .length) (split false e) in
             let w : ltb (length o) (length (listingOf (play n l .node))) ≡ false = rw node-is at e in
-            rw (z, ← is, sounds, w) (ap listed plays)
+            rw (z, sounds, w) (ap listed plays)

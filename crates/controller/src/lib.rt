@@ -31,35 +31,36 @@ pub struct Simulated {
     pub length: usize,
 }
 
-// A schedule played and the node listed: 31, then 30, with nothing played; then what `engine::play` tells, and the listing.
+// A schedule played and the node listed: 31, then 30, with nothing played; then what `engine::play` tells, and the listing. Only a node
+// that is not sound is told 31 by a play.
 pub fn play_and_list(n: Node, numbers: &[u32], out: &mut [u8]) -> PlayedListed
     ensures answer { λ r. ⌜ r ≡ playedListed n (map actionOf (now (numbers .entry))) (now (out .entry)) ⌝ }
     ensures buffer { λ r. ⌜ now (out .exit) ≡ playedShown n (map actionOf (now (numbers .entry))) (now (out .entry)) ⌝ }
 {
-    if soundness::sound(n) {
-        let r = engine::play(n, numbers);
-        let node = r.node;
-        let l = listing::list_sound(node, out);
-        if l.number != 0 {
-            return PlayedListed {
-                accepted: 0,
-                refusal: OUTPUT_SHORT,
-                length: 0,
-                node: n,
-            };
-        }
+    let r = engine::play(n, numbers);
+    if r.refusal == NOT_SOUND {
         return PlayedListed {
-            accepted: r.accepted,
-            refusal: r.refusal,
-            length: l.length,
-            node: node,
+            accepted: 0,
+            refusal: NOT_SOUND,
+            length: 0,
+            node: n,
+        };
+    }
+    let node = r.node;
+    let l = listing::list_sound(node, out);
+    if l.number != 0 {
+        return PlayedListed {
+            accepted: 0,
+            refusal: OUTPUT_SHORT,
+            length: 0,
+            node: n,
         };
     }
     PlayedListed {
-        accepted: 0,
-        refusal: NOT_SOUND,
-        length: 0,
-        node: n,
+        accepted: r.accepted,
+        refusal: r.refusal,
+        length: l.length,
+        node: node,
     }
 }
 
