@@ -1,10 +1,11 @@
 -- What the code reads of the ops of a node is what the plan's rules read of its behaviours. Assumes nothing.
 use mathlib.Core.Bool.{Bool, true, false, _&&_, _||_, not, cond}
 use mathlib.Core.List.{List, [], _∷_, map}
+use mathlib.Core.Logic.{_⊎_, inl, inr}
 use mathlib.Core.Path.{_≡_, refl, sym, _∙_, ap}
 use Prim.Native.Nat.{ℕ, _+_, _-_, _*_, _≤_, _<_}
 use native.Mathlib.Omega.{arith}
-use borrow.Author.Tests.{eqb-true}
+use borrow.Author.Tests.{eqb-true, ne-eqb}
 use lib.Dec.{eqb}
 use lib.ListN.{length, getD, drop, List·getD-eq-default}
 use lib.Seq.{getD-drop}
@@ -82,6 +83,11 @@ module _ (n : ℕ) (ops : List Op) (k : ℕ) (o : Op) {to : ℕ} (by : to ≡ co
 
   pub lands-at : {x : Op} → to < n → x ≡ getD ops (32 * k + to) noOp → not (eqb (x .number) 11) ≡ targetsFree (codeIn n ops k) (instruction o)
   lands-at h e = sym (target-to n ops k o to by ∙ ap not (on-clause-at n ops k to h) ∙ ap (λ (y : Op). not (eqb (y .number) 11)) (sym e))
+
+  -- where it leads is past the end, or on another op than a clause
+  pub lands-free : ((to < n) × (getD ops (32 * k + to) noOp .number ≡ 11 → ⊥)) ⊎ (n ≤ to) → targetsFree (codeIn n ops k) (instruction o) ≡ true
+  lands-free (inl w) = sym (lands-at (w .0) refl) ∙ ap not (ne-eqb (getD ops (32 * k + to) noOp .number) 11 (w .1))
+  lands-free (inr h) = sym (lands-end h)
 
 -- ---- all behaviours
 

@@ -1,12 +1,13 @@
 -- The steps of a steps text fit the array that holds them. Assumes nothing.
 use mathlib.Core.Bool.{Bool, true, false, cond}
 use mathlib.Core.List.{List, [], _∷_}
-use mathlib.Core.Path.{_≡_, refl, sym, _∙_}
+use mathlib.Core.Path.{_≡_, refl, sym}
 use Prim.Native.Nat.{ℕ, _≤_}
 use native.Mathlib.Omega.{arith}
 use borrow.Author.Tests.{ltb-false}
 use lib.Dec.{ltb}
-use lib.ListN.{length, take, length-take, length-replicate}
+use lib.ListN.{length, take, length-replicate}
+use lib.Seq.{length-take-le}
 use Rattle.node.proofs.Lists.{firsts-length}
 use Rattle.rules.specs.Answers.{tooLong}
 use Rattle.schedule.specs.declared.Line.{Line}
@@ -55,4 +56,4 @@ module _ {s : Schedule} (text : List ℕ) (read : s ≡ scheduleOf text) where
   count-room = let w : Fits s = rw read (fits text) in omega (arith, w)
 
   pub count-taken : s .count ≡ length (take (s .count) (s .steps))
-  count-taken = sym (length-take (s .count) (s .steps) ∙ omega (arith, count-room))
+  count-taken = sym (length-take-le (s .count) (s .steps) count-room)

@@ -1,5 +1,4 @@
 pub mod Lists
 pub mod Good
-pub mod Ops
 pub mod Contents
 pub mod Registers

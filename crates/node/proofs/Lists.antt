@@ -143,10 +143,6 @@ module _ {A : Type 0} where
       swap true false true d = refl
       swap true true c d = refl
 
-  pub allFrom-same : (f g : ℕ → A → Bool) → ((i : ℕ) (x : A) → f i x ≡ g i x) → (i : ℕ) (l : List A) → allFrom f i l ≡ allFrom g i l
-  allFrom-same f g e i [] = refl
-  allFrom-same f g e i (x ∷ l) = rw (e i x, allFrom-same f g e (i + 1) l)
-
   -- a list beside a list that is made of it
   pub allTwo-map : {B : Type 0} (f : A → B → Bool) (h : A → B) (l : List A) → allTwo f l (map h l) ≡ allOf (λ (x : A). f x (h x)) l
   allTwo-map f h [] = refl

@@ -3,15 +3,15 @@ use Prim.Native.Nat.{_+_, _*_, _-_, _≤_}
 use Rattle.node.specs.Lists.{allOf}
 use Rattle.node.specs.Nodes.{noOp}
 use Rattle.rules.specs.Behaviours.{codeSound}
-use Rattle.behaviours.proofs.Codes.{lands-at, lands-end}
+use Rattle.behaviours.proofs.Codes.{lands-at, lands-free}
 use Rattle.behaviours.proofs.Pass.{Pass, pass-start, pass-end, size-stop, op-stop, op-barred, op-more, due-stop, next-code}
 use Rattle.behaviours.proofs.Tests.{failed, passed, within-is}
 use Rattle.behaviours.specs.Codes.{codesIn}
 use borrow.Author.Needs.{needs}
-use borrow.Author.Tests.{eq-eqb, ne-eqb}
+use borrow.Author.Tests.{eq-eqb}
 use lib.ListN.{getD}
 use mathlib.Core.Bool.{not}
-use mathlib.Core.Logic.{⊎-elim}
+use mathlib.Core.Logic.{⊎-map}
 use mathlib.Core.Path.{refl, sym, _∙_, ap}
 use native.Mathlib.Omega.{arith}
 use Rattle.behaviours.proofs.behaviours_sound.Statement.{statement}
@@ -124,11 +124,7 @@ loop-again c =
     let n = getD (a .t2) (l .b) 0 in
     let s = passed (c .before .before .before .before .before .before .before .before .within2 .ensures) (c .before .before .before .before .before .before .before .if2 .left) in
     let size = within-is n 1 32 s in
-    let free =
-    ⊎-elim
-    (λ v. sym (lands-at n (a .t3) (l .b) (getD (a .t3) (32 * l .b + l .t) noOp) (c .before .before .before .landing .ensures) (v .0 .taken) refl) ∙ ap not (ne-eqb _ 11 (v .1 .left)))
-    (λ v. sym (lands-end n (a .t3) (l .b) (getD (a .t3) (32 * l .b + l .t) noOp) (c .before .before .before .landing .ensures) (v .left)))
-    (c .before .before .if4 .came) in
+    let free = lands-free n (a .t3) (l .b) (getD (a .t3) (32 * l .b + l .t) noOp) (c .before .before .before .landing .ensures) (⊎-map (λ v. (v .0 .taken, v .1 .left)) (λ v. v .left) (c .before .before .if4 .came)) in
     (search needs, search needs, search needs, search needs, op-more (a .count) (a .t2) (a .t3) (l .b) (omega arith) (l .inv .4) (omega arith) (passed (c .before .before .before .before .before .op-sound .ensures) (c .before .before .before .before .if3 .left)) free (c .before .due-next .ensures))
 
 returns-5 : tie.Need-returns-5 Inv-loop μ-loop
@@ -139,11 +135,7 @@ returns-5 c =
     let n = getD (a .t2) (l .b) 0 in
     let s = passed (c .before .before .before .before .before .before .before .before .before .within2 .ensures) (c .before .before .before .before .before .before .before .before .if2 .left) in
     let size = within-is n 1 32 s in
-    let free =
-    ⊎-elim
-    (λ v. sym (lands-at n (a .t3) (l .b) (getD (a .t3) (32 * l .b + l .t) noOp) (c .before .before .before .before .landing .ensures) (v .0 .taken) refl) ∙ ap not (ne-eqb _ 11 (v .1 .left)))
-    (λ v. sym (lands-end n (a .t3) (l .b) (getD (a .t3) (32 * l .b + l .t) noOp) (c .before .before .before .before .landing .ensures) (v .left)))
-    (c .before .before .before .if4 .came) in
+    let free = lands-free n (a .t3) (l .b) (getD (a .t3) (32 * l .b + l .t) noOp) (c .before .before .before .before .landing .ensures) (⊎-map (λ v. (v .0 .taken, v .1 .left)) (λ v. v .left) (c .before .before .before .if4 .came)) in
     let next = op-more (a .count) (a .t2) (a .t3) (l .b) (omega arith) (l .inv .4) (omega arith) (passed (c .before .before .before .before .before .before .op-sound .ensures) (c .before .before .before .before .before .if3 .left)) free (c .before .before .due-next .ensures) in
     rw w (due-stop (a .count) (a .t2) (a .t3) (l .b) (omega arith) next (omega arith) (c .if7 .taken))
 
@@ -160,11 +152,7 @@ loop-again-2 c =
     let n = getD (a .t2) (l .b) 0 in
     let s = passed (c .before .before .before .before .before .before .before .before .before .within2 .ensures) (c .before .before .before .before .before .before .before .before .if2 .left) in
     let size = within-is n 1 32 s in
-    let free =
-    ⊎-elim
-    (λ v. sym (lands-at n (a .t3) (l .b) (getD (a .t3) (32 * l .b + l .t) noOp) (c .before .before .before .before .landing .ensures) (v .0 .taken) refl) ∙ ap not (ne-eqb _ 11 (v .1 .left)))
-    (λ v. sym (lands-end n (a .t3) (l .b) (getD (a .t3) (32 * l .b + l .t) noOp) (c .before .before .before .before .landing .ensures) (v .left)))
-    (c .before .before .before .if4 .came) in
+    let free = lands-free n (a .t3) (l .b) (getD (a .t3) (32 * l .b + l .t) noOp) (c .before .before .before .before .landing .ensures) (⊎-map (λ v. (v .0 .taken, v .1 .left)) (λ v. v .left) (c .before .before .before .if4 .came)) in
     let next = op-more (a .count) (a .t2) (a .t3) (l .b) (omega arith) (l .inv .4) (omega arith) (passed (c .before .before .before .before .before .before .op-sound .ensures) (c .before .before .before .before .before .if3 .left)) free (c .before .before .due-next .ensures) in
     (search needs, search needs, search needs, search needs, next-code (a .count) (a .t2) (a .t3) (l .b) (omega arith) next (omega arith) s (c .if7 .left))
 

@@ -3,7 +3,8 @@ use borrow.Author.Needs.{needs}
 use Rattle.regression.proofs.play.Statement.{statement}
 use Rattle.regression.proofs.play.Tie as tie
 use Rattle.controller.proofs.Laws.{told-within}
-use Rattle.files.proofs.Taken.{taken}
+use lib.Seq.{length-take-le}
+use mathlib.Core.Path.{sym}
 
 add-t13 : tie.Need-add-t13
 add-t13 c = search needs
@@ -41,7 +42,7 @@ array-share-prefix-plan c = search needs
 slice-aggregate-simulate : tie.Need-slice-aggregate-simulate
 slice-aggregate-simulate c =
     let its-read-file = c .before .before .before .before .before .before .read-file in
-    taken _ _ (its-read-file .ensures)
+    sym (length-take-le _ _ (its-read-file .ensures))
 
 array-share-prefix-steps : tie.Need-array-share-prefix-steps
 array-share-prefix-steps c = search needs
@@ -49,7 +50,7 @@ array-share-prefix-steps c = search needs
 slice-aggregate-simulate-2 : tie.Need-slice-aggregate-simulate-2
 slice-aggregate-simulate-2 c =
     let its-read-file2 = c .before .before .before .read-file2 in
-    taken _ _ (its-read-file2 .ensures)
+    sym (length-take-le _ _ (its-read-file2 .ensures))
 
 slice-aggregate-simulate-3 : tie.Need-slice-aggregate-simulate-3
 slice-aggregate-simulate-3 c = search needs
@@ -71,7 +72,7 @@ array-share-prefix-out c =
 slice-aggregate-write-all-2 : tie.Need-slice-aggregate-write-all-2
 slice-aggregate-write-all-2 c =
     let its-simulate = c .before .before .before .before .simulate in
-    taken _ _ (told-within _ _ (its-simulate .ensures))
+    sym (length-take-le _ _ (told-within _ _ (its-simulate .ensures)))
 
 write-all-requires-2 : tie.Need-write-all-requires-2
 write-all-requires-2 c κs = search needs
