@@ -162,8 +162,8 @@ fn play_core(n: Node, numbers: &[u32]) -> Played
             }
             let j = s.from;
             let signal = row.oldest();
-            let mail = node.mail[k];
-            let e = decisions::arrive(o, j, p, mail.count, signal);
+            let count = node.mail[k].count;
+            let e = decisions::arrive(o, j, p, count, signal);
             if e.refusal != 0 {
                 return ended(t, e.refusal, node);
             }
@@ -173,6 +173,7 @@ fn play_core(n: Node, numbers: &[u32]) -> Played
             node.flight[r] = next;
             if e.joins {
                 let message = e.message;
+                let mail = node.mail[k];
                 let more = mail.joined(message);
                 node.mail[k] = more;
                 continue;

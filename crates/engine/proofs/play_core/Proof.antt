@@ -112,13 +112,13 @@ returns-3 c =
 oldest-requires : tie.Need-oldest-requires Inv-loop μ-loop
 oldest-requires c κs = tt
 
-mul-mail : tie.Need-mul-mail Inv-loop μ-loop
-mul-mail c =
+mul-count : tie.Need-mul-count Inv-loop μ-loop
+mul-count c =
     let its-decode = c .before .before .before .before .before .before .before .before .before .before .before .decode in
     record { fits = omega (arith, its-decode .ensures .1 .0) }
 
-element-copy-out-mail : tie.Need-element-copy-out-mail Inv-loop μ-loop
-element-copy-out-mail c =
+element-copy-out-count : tie.Need-element-copy-out-count Inv-loop μ-loop
+element-copy-out-count c =
     let its-decode = c .before .before .before .before .before .before .before .before .before .before .before .decode in
     its-decode .ensures .1 .0
 
@@ -131,17 +131,17 @@ ended-requires-4 c κs = tt
 returns-4 : tie.Need-returns-4 Inv-loop μ-loop
 returns-4 c =
     let its-ended4 = c .ended4 in
-    let its-args = c .before .before .before .before .before .before .before .before .before .before .before .before .before .before .before .before .before .before .before .before .before .args in
-    let its-loop = c .before .before .before .before .before .before .before .before .before .before .before .before .before .before .before .before .before .before .before .loop in
+    let its-args = c .before .before .before .before .before .before .before .before .before .before .before .before .before .before .before .before .before .before .before .before .args in
+    let its-loop = c .before .before .before .before .before .before .before .before .before .before .before .before .before .before .before .before .before .before .loop in
     let its-arrive = c .before .before .before .arrive in
-    let its-loop-test = c .before .before .before .before .before .before .before .before .before .before .before .before .before .before .before .before .before .before .loop-test in
-    let its-decode = c .before .before .before .before .before .before .before .before .before .before .before .before .before .before .before .before .decode in
-    let its-if1 = c .before .before .before .before .before .before .before .before .before .before .before .before .before .before .before .if1 in
-    let its-is-unborn = c .before .before .before .before .before .before .before .before .before .before .before .before .is-unborn in
-    let its-if2 = c .before .before .before .before .before .before .before .before .before .before .before .if2 in
-    let its-if3 = c .before .before .before .before .before .before .before .before .before .before .if3 in
-    let its-if4 = c .before .before .before .before .before .before .before .if4 in
-    let its-oldest = c .before .before .before .before .before .oldest in
+    let its-loop-test = c .before .before .before .before .before .before .before .before .before .before .before .before .before .before .before .before .before .loop-test in
+    let its-decode = c .before .before .before .before .before .before .before .before .before .before .before .before .before .before .before .decode in
+    let its-if1 = c .before .before .before .before .before .before .before .before .before .before .before .before .before .before .if1 in
+    let its-is-unborn = c .before .before .before .before .before .before .before .before .before .before .before .is-unborn in
+    let its-if2 = c .before .before .before .before .before .before .before .before .before .before .if2 in
+    let its-if3 = c .before .before .before .before .before .before .before .before .before .if3 in
+    let its-if4 = c .before .before .before .before .before .before .if4 in
+    let its-oldest = c .before .before .before .before .oldest in
     let its-if5 = c .before .if5 in
     its-ended4 .ensures ∙ stop (its-args .numbers .now) (its-loop .i) (its-loop .node) (its-arrive .result .refusal) (its-loop-test .taken) (its-loop .inv .1) (its-loop .inv .2) (turn-refused (its-loop .node) (its-decode .result) (meant _ (its-decode .result) (its-decode .ensures .0)) (its-if1 .left) (sym (its-is-unborn .ensures) ∙ its-if2 .left) (its-if3 .taken) (its-if4 .left) (its-arrive .result) (its-oldest .result) (its-oldest .ensures) (its-arrive .ensures) (its-if5 .taken))
 
@@ -150,23 +150,33 @@ popped-requires c κs = tt
 
 mul-q : tie.Need-mul-q Inv-loop μ-loop
 mul-q c =
-    let its-decode = c .before .before .before .before .before .before .before .before .before .before .before .before .before .before .before .before .before .decode in
+    let its-decode = c .before .before .before .before .before .before .before .before .before .before .before .before .before .before .before .before .decode in
     record { fits = omega (arith, its-decode .ensures .1 .0) }
 
 element-set-from-q : tie.Need-element-set-from-q Inv-loop μ-loop
 element-set-from-q c =
-    let its-decode = c .before .before .before .before .before .before .before .before .before .before .before .before .before .before .before .before .before .decode in
+    let its-decode = c .before .before .before .before .before .before .before .before .before .before .before .before .before .before .before .before .decode in
     its-decode .ensures .1 .0
 
 mul-next : tie.Need-mul-next Inv-loop μ-loop
 mul-next c =
-    let its-decode = c .before .before .before .before .before .before .before .before .before .before .before .before .before .before .before .before .before .decode in
+    let its-decode = c .before .before .before .before .before .before .before .before .before .before .before .before .before .before .before .before .decode in
     record { fits = omega (arith, its-decode .ensures .1 .1) }
 
 element-set-from-next : tie.Need-element-set-from-next Inv-loop μ-loop
 element-set-from-next c =
-    let its-decode = c .before .before .before .before .before .before .before .before .before .before .before .before .before .before .before .before .before .decode in
+    let its-decode = c .before .before .before .before .before .before .before .before .before .before .before .before .before .before .before .before .decode in
     its-decode .ensures .1 .1
+
+mul-mail : tie.Need-mul-mail Inv-loop μ-loop
+mul-mail c =
+    let its-decode = c .before .before .before .before .before .before .before .before .before .before .before .before .before .before .before .before .before .decode in
+    record { fits = omega (arith, its-decode .ensures .1 .0) }
+
+element-copy-out-mail : tie.Need-element-copy-out-mail Inv-loop μ-loop
+element-copy-out-mail c =
+    let its-decode = c .before .before .before .before .before .before .before .before .before .before .before .before .before .before .before .before .before .decode in
+    its-decode .ensures .1 .0
 
 joined-requires : tie.Need-joined-requires Inv-loop μ-loop
 joined-requires c κs = tt
@@ -197,32 +207,32 @@ loop-again c =
     let its-if2 = c .before .before .before .before .before .before .before .before .before .before .before .before .before .before .if2 in
     let its-if3 = c .before .before .before .before .before .before .before .before .before .before .before .before .before .if3 in
     let its-if4 = c .before .before .before .before .before .before .before .before .before .before .if4 in
-    let its-arrive = c .before .before .before .before .before .before .arrive in
+    let its-arrive = c .before .before .before .before .before .before .before .arrive in
     let its-oldest = c .before .before .before .before .before .before .before .before .oldest in
-    let its-if5 = c .before .before .before .before .if5 in
-    let its-popped = c .before .before .popped in
+    let its-if5 = c .before .before .before .before .before .if5 in
+    let its-popped = c .before .before .before .popped in
     let its-joined = c .joined in
-    let its-if6 = c .before .if6 in
+    let its-if6 = c .before .before .if6 in
     more (its-args .numbers .now) (its-loop .i) (its-loop .node) _ (its-loop-test .taken) (its-loop .inv .1) (its-loop .inv .2) (turn-joined (its-loop .node) (its-decode .result) (meant _ (its-decode .result) (its-decode .ensures .0)) (its-if1 .left) (sym (its-is-unborn .ensures) ∙ its-if2 .left) (its-if3 .taken) (its-if4 .left) (its-arrive .result) (its-oldest .result) (its-oldest .ensures) (its-arrive .ensures) (its-if5 .left) (its-popped .result) (its-popped .ensures) (its-joined .result) (its-joined .ensures) (its-if6 .taken))
 
 loop-less-2 : tie.Need-loop-less-2 Inv-loop μ-loop
 loop-less-2 c =
-    let its-loop-test = c .before .before .before .before .before .before .before .before .before .before .before .before .before .before .before .before .before .before .before .before .loop-test in
+    let its-loop-test = c .before .before .before .before .before .before .before .before .before .before .before .before .before .before .before .before .before .before .before .loop-test in
     omega (arith, its-loop-test .taken)
 
 loop-again-2 : tie.Need-loop-again-2 Inv-loop μ-loop
 loop-again-2 c =
-    let its-args = c .before .before .before .before .before .before .before .before .before .before .before .before .before .before .before .before .before .before .before .before .before .before .before .args in
-    let its-loop = c .before .before .before .before .before .before .before .before .before .before .before .before .before .before .before .before .before .before .before .before .before .loop in
-    let its-loop-test = c .before .before .before .before .before .before .before .before .before .before .before .before .before .before .before .before .before .before .before .before .loop-test in
-    let its-decode = c .before .before .before .before .before .before .before .before .before .before .before .before .before .before .before .before .before .before .decode in
-    let its-if1 = c .before .before .before .before .before .before .before .before .before .before .before .before .before .before .before .before .before .if1 in
-    let its-is-unborn = c .before .before .before .before .before .before .before .before .before .before .before .before .before .before .is-unborn in
-    let its-if2 = c .before .before .before .before .before .before .before .before .before .before .before .before .before .if2 in
-    let its-if3 = c .before .before .before .before .before .before .before .before .before .before .before .before .if3 in
-    let its-if4 = c .before .before .before .before .before .before .before .before .before .if4 in
+    let its-args = c .before .before .before .before .before .before .before .before .before .before .before .before .before .before .before .before .before .before .before .before .before .before .args in
+    let its-loop = c .before .before .before .before .before .before .before .before .before .before .before .before .before .before .before .before .before .before .before .before .loop in
+    let its-loop-test = c .before .before .before .before .before .before .before .before .before .before .before .before .before .before .before .before .before .before .before .loop-test in
+    let its-decode = c .before .before .before .before .before .before .before .before .before .before .before .before .before .before .before .before .before .decode in
+    let its-if1 = c .before .before .before .before .before .before .before .before .before .before .before .before .before .before .before .before .if1 in
+    let its-is-unborn = c .before .before .before .before .before .before .before .before .before .before .before .before .before .is-unborn in
+    let its-if2 = c .before .before .before .before .before .before .before .before .before .before .before .before .if2 in
+    let its-if3 = c .before .before .before .before .before .before .before .before .before .before .before .if3 in
+    let its-if4 = c .before .before .before .before .before .before .before .before .if4 in
     let its-arrive = c .before .before .before .before .before .arrive in
-    let its-oldest = c .before .before .before .before .before .before .before .oldest in
+    let its-oldest = c .before .before .before .before .before .before .oldest in
     let its-if5 = c .before .before .before .if5 in
     let its-popped = c .before .popped in
     let its-if6 = c .if6 in
@@ -742,8 +752,8 @@ play-core-spec =
     ended-requires-3
     returns-3
     oldest-requires
-    mul-mail
-    element-copy-out-mail
+    mul-count
+    element-copy-out-count
     arrive-requires
     ended-requires-4
     returns-4
@@ -752,6 +762,8 @@ play-core-spec =
     element-set-from-q
     mul-next
     element-set-from-next
+    mul-mail
+    element-copy-out-mail
     joined-requires
     mul-more
     element-set-from-more
