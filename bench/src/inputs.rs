@@ -40,6 +40,9 @@ pub fn lines(count: usize) -> Vec<u8> {
     b"arrive=255,255\n".repeat(count)
 }
 
+/// The steps of `full`: sixteen runs, then five turns of 31 runs of each process, and 240 arrivals behind the first of them.
+pub const FILLING: usize = 16 + 5 * 16 * 31 + 240;
+
 /// All places of all behaviours are in use, and each of sixteen processes has sent to fifteen: first one message, which has arrived, then
 /// four that are in flight. A code of 32 places has no room for the sixteenth.
 pub fn full() -> Case {

@@ -27,15 +27,21 @@ struct Run {
     loaded: Loaded,
 }
 
-/// Each mix at each size; both interpreters print the same for it and accept all its steps.
+impl Run {
+    /// Both interpreters print the same for the case and accept all its steps.
+    fn new(mix: &'static str, count: usize, case: Case) -> Run {
+        let accepted = format!("accepted={count}\nrefused=0\n");
+        assert!(same(&case).starts_with(accepted.as_bytes()), "not all steps of {mix} are accepted");
+        Run { mix, count, loaded: Loaded::new(&case), case }
+    }
+}
+
+/// Each mix at each size.
 fn runs(sizes: &[usize]) -> Vec<Run> {
     let mut runs = Vec::new();
     for mix in MIXES {
         for &count in sizes {
-            let case = (mix.case)(count);
-            let accepted = format!("accepted={count}\nrefused=0\n");
-            assert!(same(&case).starts_with(accepted.as_bytes()), "not all steps of {} are accepted", mix.name);
-            runs.push(Run { mix: mix.name, count, loaded: Loaded::new(&case), case });
+            runs.push(Run::new(mix.name, count, (mix.case)(count)));
         }
     }
     runs
@@ -84,10 +90,13 @@ pub fn plays(bars: &mut Bars) {
 pub fn steps(bars: &mut Bars) {
     println!("## play_steps and single steps: time a step\n");
     println!("`steps::play_lent` makes step records of the numbers and lends them to `play_steps`. A single step is `engine::step`, which");
-    println!("looks at soundness and copies the node each time; beside it stands `second::step::take`, which does neither.\n");
+    println!("looks at soundness and copies the node each time; beside it stands `second::step::take`, which does neither. Behind the mixes");
+    println!("stand the longest plan, and steps that fill mailboxes and pairs, up to a nearly full node.\n");
     println!("| call | mix | steps | proved, ns a step | plain Rust, ns a step | ratio |");
     println!("|---|---|---|---|---|---|");
-    let runs = runs(&[64, 4096]);
+    let mut runs = runs(&[64, 4096]);
+    runs.push(Run::new("longest plan", 4096, inputs::longest(4096)));
+    runs.push(Run::new("filling", inputs::FILLING, inputs::full()));
     let mut calls: Vec<Call> = Vec::new();
     for run in &runs {
         assert_eq!(proved::play_steps(&run.case, 1), run.count, "not all steps are accepted");
@@ -209,7 +218,7 @@ pub fn simulations(bars: &mut Bars) {
     }
     cases.push(("longest plan, 512 steps".to_string(), inputs::longest(512)));
     cases.push(("longest plan, 4,096 steps".to_string(), inputs::longest(4096)));
-    cases.push(("nearly full node, 2,736 steps".to_string(), inputs::full()));
+    cases.push((format!("nearly full node, {} steps", inputs::FILLING), inputs::full()));
     let mut calls: Vec<Call> = Vec::new();
     for (_, case) in &cases {
         same(case);
