@@ -56,6 +56,10 @@ module _ (clauses : List Op) (eight : length clauses ≡ 8) (n : ℕ) (i : ℕ) 
   pub clause-miss : (k : ℕ) → k < min n 8 → fits (getD clauses k noOp) x ≡ false → firstClause (drop k (take n clauses)) i x later ≡ firstClause (drop (k + 1) (take n clauses)) i x later
   clause-miss k h e = rw (clause-turn k h, e)
 
+  -- past the eighth there is no clause
+  pub clause-past : (k : ℕ) → 8 ≤ k → firstClause (drop k (take n clauses)) i x later ≡ firstClause (drop (k + 1) (take n clauses)) i x later
+  clause-past k h = rw (drop-of-length-le (take n clauses) {i = k} (simp length-take (omega arith)), drop-of-length-le (take n clauses) {i = k + 1} (simp length-take (omega arith)))
+
   pub clause-end : (k : ℕ) → min n 8 ≤ k → firstClause (drop k (take n clauses)) i x later ≡ later
   clause-end k h = rw (drop-of-length-le (take n clauses) {i = k} (simp length-take (omega arith)))
 

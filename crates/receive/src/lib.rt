@@ -1,7 +1,6 @@
 // Receiving: the search of a mailbox for the first message that a clause takes, and what a recv does with it.
 ghost use mathlib.Core.Path.{_≡_};
 ghost use lib.ListN.{take, getD};
-ghost use Prim.Native.Nat.{min};
 ghost use Rattle.node.specs.Mailboxes.{messages};
 ghost use Rattle.node.specs.Nodes.{noOp};
 ghost use Rattle.rules.specs.Values.{sameValue};
@@ -73,21 +72,10 @@ pub fn fits(c: Op, m: Message) -> bool
     }
 }
 
-// A recv has at most 8 clauses.
-fn clause_limit(n: u8) -> u8
-    ensures { λ r. ⌜ r ≡ min n 8 ⌝ }
-{
-    if n < 8 {
-        return n;
-    }
-    8
-}
-
 // The first message, in mailbox order, that one of the first n clauses takes, and for it the first such clause.
 pub fn search(clauses: [Op; 8], n: u8, mail: Mailbox) -> Found
     ensures { λ r. ⌜ fitOf clauses mail r ≡ search (take n clauses) 0 (messages mail) ⌝ }
 {
-    let limit = clause_limit(n);
     let count = mail.count;
     let mut found = Found::Nothing;
     let mut i: u8 = 0;
@@ -100,12 +88,15 @@ pub fn search(clauses: [Op; 8], n: u8, mail: Mailbox) -> Found
             m = slot.message;
         }
         let mut k: u8 = 0;
-        while k < limit {
-            let at = k as usize;
-            let c = clauses[at];
-            if fits(c, m) {
-                found = Found::Fit(i, k);
-                break 'messages;
+        // There are 8 clauses at most. The bound stands inside: the compiler then leaves them where they are, which is faster for few.
+        while k < n {
+            if k < 8 {
+                let at = k as usize;
+                let c = clauses[at];
+                if fits(c, m) {
+                    found = Found::Fit(i, k);
+                    break 'messages;
+                }
             }
             k += 1;
         }

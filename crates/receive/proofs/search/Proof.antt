@@ -3,42 +3,36 @@
 use borrow.Author.Needs.{needs}
 use mathlib.Core.Path.{_≡_, refl, sym, _∙_}
 use native.Mathlib.Omega.{arith}
-use Prim.Native.Nat.{_≤_, _<_, _-_, _+_, min}
+use Prim.Native.Nat.{_≤_, _<_, _-_, _+_}
 use lib.ListN.{length, take, drop, getD}
 use Rattle.node.proofs.Good.{sized-mailbox}
 use Rattle.node.proofs.Lists.{past-blank}
 use Rattle.node.specs.declared.Slot.{Slot}
 use Rattle.node.specs.Mailboxes.{messages, noMessage}
 use mathlib.Core.Logic.{⊎-elim}
-use Rattle.receive.proofs.Laws.{message-turn, message-end, clause-hit, clause-miss, clause-end}
+use Rattle.receive.proofs.Laws.{message-turn, message-end, clause-hit, clause-miss, clause-past, clause-end}
 use Rattle.receive.proofs.search.Statement.{statement}
 use Rattle.receive.proofs.search.Tie as tie
 use Rattle.receive.specs.declared.Found.the-variants.{Nothing}
 use Rattle.rules.specs.Receive.{search as searched, firstClause}
 
 abbrev Inv-loop : tie.InvT-loop
-Inv-loop n clauses mail limit count found₀ i m k₀ found k =
-    (length clauses ≡ 8) × (limit ≡ min n 8) × (count ≡ mail .count) × (found ≡ Nothing) × (i < count) × (k ≤ limit) × (m ≡ getD (mail .slots) i noMessage .message)
+Inv-loop n clauses mail count found₀ i m k₀ found k =
+    (length clauses ≡ 8) × (count ≡ mail .count) × (found ≡ Nothing) × (i < count) × (k ≤ n) × (m ≡ getD (mail .slots) i noMessage .message)
     × (searched (take n clauses) 0 (messages mail) ≡ firstClause (drop k (take n clauses)) i m (searched (take n clauses) (i + 1) (drop (i + 1) (messages mail))))
 
 abbrev μ-loop : tie.MeasureT-loop
-μ-loop n clauses mail limit count found₀ i m k₀ found k = limit - k
+μ-loop n clauses mail count found₀ i m k₀ found k = n - k
 
 abbrev Inv-messages : tie.InvT-messages
-Inv-messages n clauses mail limit count found₀ i₀ found i =
-    (length clauses ≡ 8) × (limit ≡ min n 8) × (count ≡ mail .count) × (found ≡ Nothing) × (i ≤ count) × (searched (take n clauses) 0 (messages mail) ≡ searched (take n clauses) i (drop i (messages mail)))
+Inv-messages n clauses mail count found₀ i₀ found i =
+    (length clauses ≡ 8) × (count ≡ mail .count) × (found ≡ Nothing) × (i ≤ count) × (searched (take n clauses) 0 (messages mail) ≡ searched (take n clauses) i (drop i (messages mail)))
 
 abbrev μ-messages : tie.MeasureT-messages
-μ-messages n clauses mail limit count found₀ i₀ found i = count - i
-
-clause-limit-requires : tie.Need-clause-limit-requires Inv-loop μ-loop Inv-messages μ-messages
-clause-limit-requires c κs = search needs
+μ-messages n clauses mail count found₀ i₀ found i = count - i
 
 messages-holds : tie.Need-messages-holds Inv-loop μ-loop Inv-messages μ-messages
-messages-holds c =
-    let its-good = c .before .good in
-    let its-clause-limit = c .clause-limit in
-    (its-good .0 .1 .0 .1, its-clause-limit .ensures, refl, refl, omega arith, refl)
+messages-holds c = (c .good .0 .1 .0 .1, refl, refl, omega arith, refl)
 
 cast-x : tie.Need-cast-x Inv-loop μ-loop Inv-messages μ-messages
 cast-x c = search needs
@@ -52,14 +46,14 @@ element-copy-out-slot c = search needs
 loop-holds : tie.Need-loop-holds Inv-loop μ-loop Inv-messages μ-messages
 loop-holds c =
     let its-messages = c .before .before .messages in
-    let its-args = c .before .before .before .before .args in
-    let its-good = c .before .before .before .before .good in
+    let its-args = c .before .before .before .args in
+    let its-good = c .before .before .before .good in
     let v = its-messages .inv in
     let i = its-messages .i in
     let slots = its-args .t3 .slots in
     let size = sized-mailbox (its-args .t3) (its-good .1 .1 .0) in
     let m : c .if1 .m ≡ getD slots i noMessage .message = ⊎-elim (λ w. w .2) (λ w. w .1 ∙ past-blank (λ (x : Slot). x .message) noMessage slots i (omega (arith, w .0 .left))) (c .if1 .came) in
-    (v .0, v .1, v .2, v .3, omega arith, omega arith, m, v .5 ∙ message-turn (its-args .t3) (take (its-args .n) (its-args .t1)) i (omega arith) ∙ rw m)
+    (v .0, v .1, v .2, omega arith, omega arith, m, v .4 ∙ message-turn (its-args .t3) (take (its-args .n) (its-args .t1)) i (omega arith) ∙ rw m)
 
 cast-at : tie.Need-cast-at Inv-loop μ-loop Inv-messages μ-messages
 cast-at c = search needs
@@ -81,11 +75,19 @@ loop-less c = omega arith
 
 loop-again : tie.Need-loop-again Inv-loop μ-loop Inv-messages μ-messages
 loop-again c =
-    let its-loop = c .before .before .before .before .loop in
-    let its-args = c .before .before .before .before .before .before .before .before .before .args in
-    let its-fits = c .before .fits2 in
-    let its-if2 = c .if2 in
-    let v = its-loop .inv in (v .0, v .1, v .2, v .3, v .4, omega arith, v .6, v .7 ∙ clause-miss (its-args .t1) (v .0) (its-args .n) _ _ _ (its-loop .k) (omega arith) (sym (its-fits .ensures) ∙ its-if2 .left))
+    let its-loop = c .before .before .loop in
+    let its-m = c .before .before .before .if1 in
+    let its-messages = c .before .before .before .before .before .messages in
+    let its-args = c .before .before .before .before .before .before .args in
+    let v = its-loop .inv in
+    let k = its-loop .k in
+    let i = its-messages .i in
+    let clauses = take (its-args .n) (its-args .t1) in
+    let later = searched clauses (i + 1) (drop (i + 1) (messages (its-args .t3))) in
+    let next : firstClause (drop k clauses) i (its-m .m) later ≡ firstClause (drop (k + 1) clauses) i (its-m .m) later =
+    ⊎-elim (λ w. clause-miss (its-args .t1) (v .0) (its-args .n) i (its-m .m) later k (omega (arith, w .0 .taken)) (sym (w .2 .ensures) ∙ w .3 .left))
+    (λ w. clause-past (its-args .t1) (v .0) (its-args .n) i (its-m .m) later k (omega (arith, w .left))) (c .if2 .came) in
+    (v .0, v .1, v .2, v .3, omega arith, v .5, v .6 ∙ next)
 
 add-i : tie.Need-add-i Inv-loop μ-loop Inv-messages μ-messages
 add-i c = omega arith
@@ -96,22 +98,22 @@ messages-less c = omega arith
 messages-again : tie.Need-messages-again Inv-loop μ-loop Inv-messages μ-messages
 messages-again c =
     let its-loop = c .before .loop in
-    let its-args = c .before .before .before .before .before .before .args in
-    let v = its-loop .inv in (v .0, v .1, v .2, v .3, omega arith, v .7 ∙ clause-end (its-args .t1) (v .0) (its-args .n) _ _ _ (its-loop .k) (omega arith))
+    let its-args = c .before .before .before .before .before .args in
+    let v = its-loop .inv in (v .0, v .1, v .2, omega arith, v .6 ∙ clause-end (its-args .t1) (v .0) (its-args .n) _ _ _ (its-loop .k) (omega arith))
 
 returns : tie.Need-returns Inv-loop μ-loop Inv-messages μ-messages
 returns c =
     let its-messages = c .before .messages in
-    let its-args = c .before .before .before .args in
-    let v = its-messages .inv in rw (v .3) (sym (v .5 ∙ message-end (its-args .t3) (take (its-args .n) (its-args .t1)) (its-messages .i) (omega arith)))
+    let its-args = c .before .before .args in
+    let v = its-messages .inv in rw (v .2) (sym (v .4 ∙ message-end (its-args .t3) (take (its-args .n) (its-args .t1)) (its-messages .i) (omega arith)))
 
 returns-2 : tie.Need-returns-2 Inv-loop μ-loop Inv-messages μ-messages
 returns-2 c =
-    let its-loop = c .before .before .before .before .loop in
+    let its-loop = c .before .before .before .before .before .loop in
     let its-args = c .before .before .before .before .before .before .before .before .before .args in
     let its-fits = c .before .fits2 in
-    let its-if2 = c .if2 in
-    let v = its-loop .inv in sym (v .7 ∙ clause-hit (its-args .t1) (v .0) (its-args .n) _ _ _ (its-loop .k) (omega arith) (sym (its-fits .ensures) ∙ its-if2 .taken) ∙ rw (v .6))
+    let its-if3 = c .if3 in
+    let v = its-loop .inv in sym (v .6 ∙ clause-hit (its-args .t1) (v .0) (its-args .n) _ _ _ (its-loop .k) (omega arith) (sym (its-fits .ensures) ∙ its-if3 .taken) ∙ rw (v .5))
 
 pub search-spec : {M : Type 1} → statement M
 search-spec =
@@ -121,7 +123,6 @@ search-spec =
     μ-loop
     Inv-messages
     μ-messages
-    clause-limit-requires
     messages-holds
     cast-x
     mul-slot
