@@ -2,19 +2,18 @@
 --   pairAt n k                 the text of the pair that stands at k
 --   flight-pairs               the text of all rows is that of the pairs
 --   left-pair left-pairs-end   a turn and the end of the loop over pairs
-use mathlib.Core.List.{List, [], _∷_, _++_, append-assoc}
+use mathlib.Core.List.{List, [], _∷_, _++_, append-assoc, flatMap}
 use mathlib.Core.Path.{_≡_, refl, sym, _∙_, ap}
-use Prim.Native.Nat.{ℕ, zero, suc, _+_, _-_, _*_, _/_, _%_, _≤_, _<_}
+use Prim.Native.Nat.{ℕ, _+_, _-_, _*_, _/_, _%_, _≤_, _<_}
 use native.Mathlib.Nat.{zero-add}
-use native.Mathlib.Omega.{arith}
 use lib.ListN.{drop, getD}
 use Rattle.node.specs.declared.Node.{Node}
 use Rattle.node.specs.Lists.{rising}
 use Rattle.node.specs.Nodes.{noRow}
 use Rattle.node.specs.Rows.{signals}
-use Rattle.node.proofs.Lists.{rising-append}
 use Rattle.rules.proofs.All.{made-at}
 use Rattle.rules.specs.Nodes.{view}
+use Rattle.rules.specs.Values.{numbers}
 use Rattle.text.proofs.Writing.{Left, left-item, left-end}
 use Rattle.text.specs.Writing.{Wrote, each}
 use Rattle.listing_lines.specs.Lines.{eachFrom, pairText}
@@ -28,19 +27,16 @@ unfolding each
 each-append f [] r = refl
 each-append f (x ∷ l) r = ap (λ (t : List ℕ). f x ++ t) (each-append f l r) ∙ sym (append-assoc (f x) (each f l) (each f r))
 
--- blocks of sixteen, one behind the other
-each-blocks : (f : ℕ → List ℕ) (a n : ℕ) → each (λ (j : ℕ). each f (rising (16 * (j - 1)) 16)) (rising (a + 1) n) ≡ each f (rising (16 * a) (n * 16))
-unfolding each
-each-blocks f a zero = refl
-each-blocks f a (suc n) =
-    let s : suc n * 16 ≡ 16 + n * 16 = omega arith in
-    let r : 16 * a + 16 ≡ 16 * (a + 1) = omega arith in
-    let q : 16 * (a + 1 - 1) ≡ 16 * a = omega arith in
-    rw (s, rising-append (16 * a) 16 (n * 16), each-append f (rising (16 * a) 16) (rising (16 * a + 16) (n * 16)), r, q, each-blocks f (a + 1) n)
+-- texts of blocks, one behind the other
+each-blocks : (f : ℕ → List ℕ) (g : ℕ → List ℕ) (l : List ℕ) → each (λ (j : ℕ). each f (g j)) l ≡ each f (flatMap g l)
+unfolding each flatMap
+each-blocks f g [] = refl
+each-blocks f g (j ∷ l) = ap (λ (t : List ℕ). each f (g j) ++ t) (each-blocks f g l) ∙ sym (each-append f (g j) (flatMap g l))
 
+-- sixteen blocks of sixteen are the 256 pairs: both sides compute to the same texts
 pub flight-pairs : (n : Node) → eachFrom rowsText 1 (view n .flight) ≡ each (pairAt n) (rising 0 256)
-unfolding view rowsText eachFrom each
-flight-pairs n = each-blocks (pairAt n) 0 16
+unfolding view rowsText eachFrom each flatMap
+flight-pairs n = each-blocks (pairAt n) (λ (j : ℕ). rising (16 * (j - 1)) 16) numbers
 
 -- number k of those that rise from 0
 rising-at : (k : ℕ) → k < 256 → getD (rising 0 256) k 0 ≡ k
