@@ -10,6 +10,7 @@ use lib.ListN.{length, getD, set, take, drop, length-take, length-drop}
 use lib.Seq.{ext-getD, getD-take, getD-drop}
 use Rattle.decisions.specs.declared.Effect.{Effect}
 use Rattle.decisions.specs.Answers.{stateOf, sentOf, bornOf, runOf, arrivalOf, At}
+use Rattle.node.proofs.Lists.{map-rising-at}
 use Rattle.node.specs.declared.Mailbox.{Mailbox}
 use Rattle.node.specs.declared.Node.{Node}
 use Rattle.node.specs.declared.Op.{Op}
@@ -32,7 +33,6 @@ use Rattle.rules.specs.Receive.{search, receivesFit, receives}
 use Rattle.rules.specs.Run.{runs}
 use Rattle.rules.specs.Steps.{Action, run, arrive, owner, isUnborn, numbered, ownerBorn, signalWaits, pairHasRoom, numberFree, incoming, decide, rule}
 use Rattle.rules.specs.Values.{isNumber}
-use Rattle.rules.proofs.All.{made-at}
 use Rattle.rules.proofs.Commute.{incoming-oldest}
 use Rattle.rules.proofs.Keep.{Keeps, NotBoth}
 use Rattle.rules.proofs.Kept.{Parts, parts-of, decided-keeps, owner-number}
@@ -75,7 +75,7 @@ module _ (n : Node) (p : Process) where
   eight-read s t u v w x y z = rw (s, t, u, v, w, x, y, z)
 
   eight-at : (k : ℕ) → k < 8 → getD eight k noOp ≡ opAt (1 + k)
-  eight-at k h = made-at opAt 1 8 k noOp h
+  eight-at k h = map-rising-at opAt 1 8 k noOp h
 
 module _ (n : Node) (whole : Parts n) (i : ℕ) (number : So (isNumber i)) (live : process n i .stage ≡ Live) where
   abbrev Q : Process

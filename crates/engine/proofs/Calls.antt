@@ -9,6 +9,7 @@ use borrow.Author.Tests.{ne-eqb, lt-ltb, le-ltb}
 use lib.Dec.{ltb}
 use lib.ListN.{length, getD, take}
 use lib.Seq.{take-suc, take-all}
+use Rattle.node.proofs.Lists.{map-rising-at}
 use Rattle.node.specs.declared.Node.{Node}
 use Rattle.node.specs.declared.Step.{Step}
 use Rattle.node.specs.Lists.{rising, allOf}
@@ -16,7 +17,7 @@ use Rattle.rules.specs.Answers.{Answer, refused, done, need}
 use Rattle.rules.specs.Nodes.{Sound, sound}
 use Rattle.rules.specs.Steps.{Action, run, meaning, Played, step, rule, playsOn, played, play}
 use Rattle.rules.specs.Suggest.{possible, isDone, acceptable}
-use Rattle.rules.proofs.All.{both, allOf-append, made-at}
+use Rattle.rules.proofs.All.{both, allOf-join}
 use Rattle.rules.proofs.Suggest.{possible-count}
 use Rattle.actions.specs.Numbers.{decode, actionOf}
 use Rattle.engine.specs.declared.Played.{Played as Answered}
@@ -91,7 +92,7 @@ unfolding possible possibleStep meaning
 possible-made = refl
 
 possible-at : (k : ℕ) → k < 272 → getD possible k (run 0) ≡ possibleAction k
-possible-at k h = let e : 0 + k ≡ k = omega arith in ap (λ (l : List Action). getD l k (run 0)) (sym possible-made) ∙ made-at possibleAction 0 272 k (run 0) h ∙ ap possibleAction e
+possible-at k h = let e : 0 + k ≡ k = omega arith in ap (λ (l : List Action). getD l k (run 0)) (sym possible-made) ∙ map-rising-at possibleAction 0 272 k (run 0) h ∙ ap possibleAction e
 
 -- none of the first k is acceptable
 abbrev pub NoneOf : Node → ℕ → Type 0
@@ -100,7 +101,7 @@ NoneOf n k = So (allOf (λ a. not (acceptable n a)) (take k possible))
 pub none-more : (n : Node) (k : ℕ) → k < 272 → NoneOf n k → So (not (acceptable n (possibleAction k))) → NoneOf n (k + 1)
 none-more n k h v x =
     let e : take (k + 1) possible ≡ take k possible ++ (possibleAction k ∷ []) = rw add-one (take-suc possible k (run 0) (rw possible-count h) ∙ rw (possible-at k h)) in
-    rw e (allOf-append (λ a. not (acceptable n a)) (take k possible) (possibleAction k ∷ []) v (both x refl))
+    rw e (allOf-join (λ a. not (acceptable n a)) (take k possible) (possibleAction k ∷ []) v (both x refl))
 
 pub none-all : (n : Node) (k : ℕ) → 272 ≤ k → NoneOf n k → So (allOf (λ a. not (acceptable n a)) possible)
 none-all n k h v = rw (take-all k possible (rw possible-count h)) at v

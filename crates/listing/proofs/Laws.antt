@@ -9,9 +9,9 @@ use Prim.Native.Nat.{ℕ, _+_, _≤_, _<_}
 use native.Mathlib.Nat.{add-sub-cancel-left}
 use borrow.Author.Tests.{lt-ltb, le-ltb}
 use lib.ListN.{length, drop, getD, drop-of-length-le}
+use Rattle.node.proofs.Lists.{map-rising-at}
 use Rattle.node.specs.declared.Node.{Node}
 use Rattle.node.specs.Nodes.{noProcess, noMailbox}
-use Rattle.rules.proofs.All.{made-at}
 use Rattle.rules.specs.Answers.{notSound}
 use Rattle.rules.specs.Nodes.{process, mailbox, unborn, standing, view, sound}
 use Rattle.text.proofs.Writing.{Left, left-more, left-none, wrote-whole, counted-length}
@@ -37,7 +37,7 @@ module _ (n : Node) (k : ℕ) (h : k < 16) where
   process-at : getD (view n .processes) k unborn ≡ standing (getD (n .processes) k noProcess) (getD (n .mail) k noMailbox)
   unfolding view
   process-at =
-      made-at (λ (i : ℕ). standing (process n i) (mailbox n i)) 1 16 k unborn h
+      map-rising-at (λ (i : ℕ). standing (process n i) (mailbox n i)) 1 16 k unborn h
       ∙ ap (λ (j : ℕ). standing (getD (n .processes) j noProcess) (getD (n .mail) j noMailbox)) (add-sub-cancel-left 1 k)
 
 -- ---- the loop over processes

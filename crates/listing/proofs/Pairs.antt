@@ -7,11 +7,11 @@ use mathlib.Core.Path.{_≡_, refl, sym, _∙_, ap}
 use Prim.Native.Nat.{ℕ, _+_, _-_, _*_, _/_, _%_, _≤_, _<_}
 use native.Mathlib.Nat.{zero-add}
 use lib.ListN.{drop, getD}
+use Rattle.rules.proofs.All.{rising-at}
 use Rattle.node.specs.declared.Node.{Node}
 use Rattle.node.specs.Lists.{rising}
 use Rattle.node.specs.Nodes.{noRow}
 use Rattle.node.specs.Rows.{signals}
-use Rattle.rules.proofs.All.{made-at}
 use Rattle.rules.specs.Nodes.{view}
 use Rattle.rules.specs.Values.{numbers}
 use Rattle.text.proofs.Writing.{Left, left-item, left-end}
@@ -38,13 +38,9 @@ pub flight-pairs : (n : Node) → eachFrom rowsText 1 (view n .flight) ≡ each 
 unfolding view rowsText eachFrom each flatMap
 flight-pairs n = each-blocks (pairAt n) (λ (j : ℕ). rising (16 * (j - 1)) 16) numbers
 
--- number k of those that rise from 0
-rising-at : (k : ℕ) → k < 256 → getD (rising 0 256) k 0 ≡ k
-rising-at k h = made-at (λ (i : ℕ). i) 0 256 k 0 h ∙ zero-add k
-
 module _ (n : Node) (k : ℕ) {o text m : List ℕ} {a e : ℕ} (p : Left o a text m e (each (pairAt n) (drop k (rising 0 256)))) where
   pub left-pair : {u : List ℕ} {r : ℕ} → k < 256 → Wrote m e (pairAt n k) u r → Left o a text u r (each (pairAt n) (drop (k + 1) (rising 0 256)))
-  left-pair h q = left-item (pairAt n) (rising 0 256) k p 0 h (rw (rising-at k h) q)
+  left-pair h q = left-item (pairAt n) (rising 0 256) k p 0 h (rw (rising-at 0 256 k 0 h, zero-add) q)
 
   pub left-pairs-end : 256 ≤ k → Wrote o a text m e
   left-pairs-end h = left-end (pairAt n) (rising 0 256) k p h

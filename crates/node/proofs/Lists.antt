@@ -3,7 +3,7 @@ use mathlib.Core.Bool.{Bool, true, false, _&&_, and-assoc, and-eq-true-iff}
 use mathlib.Core.List.{List, [], _∷_, _++_, map}
 use mathlib.Core.Path.{_≡_, refl, sym, _∙_, ap}
 use Prim.Native.Nat.{ℕ, zero, suc, _+_, _-_, _≤_, _<_}
-use native.Mathlib.Nat.{add-zero, le-of-suc-le-suc, not-suc-le-zero, suc-add, zero-add}
+use native.Mathlib.Nat.{add-zero, le-of-suc-le-suc, not-suc-le-zero}
 use native.Mathlib.Numerals.{add-one}
 use native.Mathlib.Omega.{arith}
 use lib.ListN.{length, getD, take, drop, set, length-append, length-map, drop-of-length-le, List·getD-map, List·getD-eq-default}
@@ -167,7 +167,3 @@ module _ {A : Type 0} where
   pub allFrom-rising : (f : ℕ → A → Bool) (h : ℕ → A) (i n : ℕ) → allFrom f i (map h (rising i n)) ≡ allOf (λ (k : ℕ). f k (h k)) (rising i n)
   allFrom-rising f h i zero = refl
   allFrom-rising f h i (suc n) = ap (λ (b : Bool). f i (h i) && b) (allFrom-rising f h (i + 1) n)
-
-pub rising-append : (i m n : ℕ) → rising i (m + n) ≡ rising i m ++ rising (i + m) n
-rising-append i zero n = rw (zero-add, add-zero)
-rising-append i (suc m) n = rw suc-add (ap (λ (l : List ℕ). i ∷ l) (rising-append (i + 1) m n ∙ ap (λ (j : ℕ). rising (i + 1) m ++ rising j n) (omega arith)))

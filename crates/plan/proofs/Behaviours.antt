@@ -13,10 +13,10 @@ use Rattle.node.specs.declared.Node.{Node}
 use Rattle.node.specs.declared.Op.{Op}
 use Rattle.node.specs.Lists.{allOf, rising}
 use Rattle.node.specs.Nodes.{noOp}
-use Rattle.node.proofs.Lists.{firsts-take}
+use Rattle.node.proofs.Lists.{firsts-take, map-rising-at, map-rising-length}
 use Rattle.rules.specs.Behaviours.{Instruction, inRange, instruction}
 use Rattle.rules.specs.Nodes.{code, behavioursOf}
-use Rattle.rules.proofs.All.{parts, allOf-at, made-at, made-length, map-at}
+use Rattle.rules.proofs.All.{parts, allOf-at, map-at}
 use Rattle.plan_line.specs.declared.Start.{Start}
 use Rattle.plan.specs.Plans.{Plan, emptyNode, withCode, withStart, withEach, nodeOf}
 use Rattle.plan.proofs.Kept.{codeKept, PlanKept}
@@ -106,11 +106,11 @@ module _ (codes : List (List Op)) (few : length codes ≤ 8) (short : (i : ℕ) 
       let g : ℕ → List Instruction = λ b. map instruction (code coded b) in
       let zero-count : 0 + length codes ≡ length codes = omega arith in
       let count : coded .count ≡ length codes = codes-count emptyNode codes ∙ zero-count in
-      let size = made-length g 1 (coded .count) in
+      let size = map-rising-length g 1 (coded .count) in
       ext-getD [] (map g (rising 1 (coded .count))) (map (map instruction) codes) (size ∙ count ∙ sym (length-map codes (map instruction)))
       (λ i h.
       let l : i < length codes = omega (arith, size, count) in
-      made-at g 1 (coded .count) i [] (omega (arith, count)) ∙ ap (map instruction) (code-there i l) ∙ sym (map-at (map instruction) codes i [] [] l))
+      map-rising-at g 1 (coded .count) i [] (omega (arith, count)) ∙ ap (map instruction) (code-there i l) ∙ sym (map-at (map instruction) codes i [] [] l))
 
 starts-behaviours : (n : Node) (starts : List Start) → behavioursOf (withEach withStart n starts) ≡ behavioursOf n
 unfolding behavioursOf code

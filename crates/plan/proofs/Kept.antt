@@ -15,7 +15,7 @@ use Rattle.node.specs.Lists.{allOf}
 use Rattle.rules.specs.Answers.{Answer, refused, done, need}
 use Rattle.rules.specs.Behaviours.{inRange, instruction}
 use Rattle.rules.specs.Values.{isNumber}
-use Rattle.rules.proofs.All.{both, allOf-append}
+use Rattle.rules.proofs.All.{both, allOf-join}
 use Rattle.behaviours.proofs.Operands.{in-range-by}
 use Rattle.text.specs.Parts.{Lines}
 use Rattle.plan_line.specs.declared.Start.{Start}
@@ -73,7 +73,7 @@ module _ {A : Type 0} where
         let w = then-good (more (f xs) xs l) (times n (λ (ys : List A). more (f ys) ys)) e in
         let u = then-good (f xs l) (λ (x : A) (r : Left). good (xs ++ (x ∷ [])) r) (w .2) in
         let same : xs ++ (u .0 ∷ []) ≡ w .0 = cc in
-        let one = allOf-append q xs (u .0 ∷ []) h (both (kept xs l (u .0) (u .1) (u .2)) refl) in
+        let one = allOf-join q xs (u .0 ∷ []) h (both (kept xs l (u .0) (u .1) (u .2)) refl) in
         let next = times-kept n (w .0) (w .1) (w .3) (subst (λ (ys : List A). So (allOf q ys)) same one) in
         (omega (arith, next .0, ap length same, length-append xs (u .0 ∷ [])), next .1)
 

@@ -5,7 +5,8 @@ use mathlib.Core.Path.{_≡_, refl, _∙_, ap}
 use Prim.Native.Nat.{ℕ, zero, suc, _+_, _-_, _≤_, _<_}
 use native.Mathlib.Nat.{not-suc-le-zero, le-of-suc-le-suc}
 use native.Mathlib.Omega.{arith}
-use lib.ListN.{length, getD, length-map}
+use lib.ListN.{length, getD}
+use Rattle.node.proofs.Lists.{allFrom-at, allOf-append, map-rising-at, map-rising-length}
 use Rattle.node.specs.Lists.{rising, allFrom, allOf, allTwo}
 
 pub both : {a b : Bool} → So a → So b → So (a && b)
@@ -15,11 +16,6 @@ pub parts : (a b : Bool) → So (a && b) → So a × So b
 parts a b h = and-eq-true-iff a b .0 h
 
 module _ {A : Type 0} (f : ℕ → A → Bool) (d : A) where
-  pub allFrom-at : (i : ℕ) (l : List A) → So (allFrom f i l) → (k : ℕ) → k < length l → So (f (i + k) (getD l k d))
-  allFrom-at i [] h k g = absurd (not-suc-le-zero g)
-  allFrom-at i (x ∷ l) h zero g = let e : i + 0 ≡ i = omega arith in rw e (parts (f i x) (allFrom f (i + 1) l) h .0)
-  allFrom-at i (x ∷ l) h (suc k) g = let e : i + suc k ≡ i + 1 + k = omega arith in rw e (allFrom-at (i + 1) l (parts (f i x) (allFrom f (i + 1) l) h .1) k (le-of-suc-le-suc g))
-
   pub allFrom-of : (i : ℕ) (l : List A) → ((k : ℕ) → k < length l → So (f (i + k) (getD l k d))) → So (allFrom f i l)
   allFrom-of i [] h = refl
   allFrom-of i (x ∷ l) h =
@@ -39,16 +35,11 @@ module _ {A : Type 0} (f : A → Bool) where
   allOf-any d (x ∷ l) g h zero = parts (f x) (allOf f l) h .0
   allOf-any d (x ∷ l) g h (suc k) = allOf-any d l g (parts (f x) (allOf f l) h .1) k
 
-  pub allOf-append : (l r : List A) → So (allOf f l) → So (allOf f r) → So (allOf f (l ++ r))
-  allOf-append [] r h g = g
-  allOf-append (x ∷ l) r h g = both (parts (f x) (allOf f l) h .0) (allOf-append l r (parts (f x) (allOf f l) h .1) g)
+  pub allOf-join : (l r : List A) → So (allOf f l) → So (allOf f r) → So (allOf f (l ++ r))
+  allOf-join l r h g = rw (allOf-append f l r) (both h g)
 
   pub allOf-parts : (l r : List A) → So (allOf f (l ++ r)) → So (allOf f l) × So (allOf f r)
-  allOf-parts [] r h = (refl, h)
-  allOf-parts (x ∷ l) r h =
-      let t = parts (f x) (allOf f (l ++ r)) h in
-      let u = allOf-parts l r (t .1) in
-      (both (t .0) (u .0), u .1)
+  allOf-parts l r h = parts (allOf f l) (allOf f r) (rw (allOf-append f l r) at h)
 
   pub allOf-flatMap : {B : Type 0} (g : B → List A) (l : List B) → So (allOf f (flatMap g l)) → So (allOf (λ b. allOf f (g b)) l)
   unfolding flatMap
@@ -58,10 +49,6 @@ module _ {A : Type 0} (f : A → Bool) where
   pub allOf-map : {B : Type 0} (g : B → A) (l : List B) → allOf f (map g l) ≡ allOf (λ b. f (g b)) l
   allOf-map g [] = refl
   allOf-map g (b ∷ l) = ap (λ (t : Bool). f (g b) && t) (allOf-map g l)
-
-pub rising-length : (i n : ℕ) → length (rising i n) ≡ n
-rising-length i zero = refl
-rising-length i (suc n) = ap suc (rising-length (i + 1) n)
 
 pub rising-at : (i n k d : ℕ) → k < n → getD (rising i n) k d ≡ i + k
 rising-at i zero k d h = absurd (not-suc-le-zero h)
@@ -82,26 +69,18 @@ each-at P k (x ∷ l) d h g (suc j) = let e : k + suc j ≡ suc k + j = omega ar
 
 -- a list made over i, i + 1, ..
 module _ {A : Type 0} (g : ℕ → A) where
-  pub made-length : (i n : ℕ) → length (map g (rising i n)) ≡ n
-  made-length i n = length-map (rising i n) g ∙ rising-length i n
-
-  pub made-at : (i n k : ℕ) (d : A) → k < n → getD (map g (rising i n)) k d ≡ g (i + k)
-  made-at i zero k d h = absurd (not-suc-le-zero h)
-  made-at i (suc n) zero d h = let e : i + 0 ≡ i = omega arith in rw e
-  made-at i (suc n) (suc k) d h = let e : i + suc k ≡ i + 1 + k = omega arith in rw e (made-at (i + 1) n k d (le-of-suc-le-suc h))
-
   -- a test of all of them, each with its number
   pub made-all : (f : ℕ → A → Bool) (i n : ℕ) → So (allFrom f i (map g (rising i n))) → (k : ℕ) → i ≤ k → k < i + n → So (f k (g k))
   made-all f i n h k a b =
       let e : i + (k - i) ≡ k = omega arith in
-      let t = allFrom-at f (g i) i (map g (rising i n)) h (k - i) (rw made-length (omega arith)) in
-      rw (made-at i n (k - i) (g i) (omega arith), e) at t
+      let t = allFrom-at f i (map g (rising i n)) (k - i) (g i) h (rw (map-rising-length g i n) (omega arith)) in
+      rw (map-rising-at g i n (k - i) (g i) (omega arith), e) at t
 
   pub all-made : (f : ℕ → A → Bool) (i n : ℕ) → ((k : ℕ) → i ≤ k → k < i + n → So (f k (g k))) → So (allFrom f i (map g (rising i n)))
   all-made f i n h =
       allFrom-of f (g i) i (map g (rising i n)) (λ k b.
-      let c : k < n = rw made-length at b in
-      rw (made-at i n k (g i) c) (h (i + k) (omega arith) (omega arith)))
+      let c : k < n = rw (map-rising-length g i n) at b in
+      rw (map-rising-at g i n k (g i) c) (h (i + k) (omega arith) (omega arith)))
 
 -- ---- two lists
 

@@ -31,7 +31,7 @@ use Rattle.node.specs.Nodes.{noOp}
 use Rattle.node.specs.Ops.{kindsOf}
 use Rattle.node.specs.Processes.{fresh, register, withRegister, withRegisters, moved, advanced, trapped, linksTo, linked, unlinked, ended, gone}
 use Rattle.node.specs.Values.{normal, kill, killed, badarg, badarith, pid}
-use Rattle.node.proofs.Lists.{firsts-length}
+use Rattle.node.proofs.Lists.{allFrom-at, firsts-length}
 use Rattle.rules.specs.Answers.{Answer, refused, done, need}
 use Rattle.rules.specs.Arrive.{arrivesIn, arrives, takes, exits, joinsWith, notes}
 use Rattle.rules.specs.Behaviours.{Instruction, instruction, numeric, operand, operandInRange, inRange, onClause, isRecv, isClause, clauseCount, noInstruction, hasClauses, dueNext, due, targetFree, targetsFree, wellPlaced, codeSound}
@@ -41,7 +41,7 @@ use Rattle.rules.specs.Receive.{Fit, fits, firstClause, search, kept, re
 use Rattle.rules.specs.Run.{setsRegister, jumpsIf, adds, compares, toProcess, toOther, spawns, opTable, runsOp, lowest, closesTo, closes, runsLive, runsIn, runs}
 use Rattle.rules.specs.Steps.{isUnborn}
 use Rattle.rules.specs.Values.{numbers, isNumber, fitsInt, valueSound, messageSound, sameValue}
-use Rattle.rules.proofs.All.{both, parts, allFrom-at, allOf-at, allOf-map, map-at, allTwo-at, Each, each-at}
+use Rattle.rules.proofs.All.{both, parts, allOf-at, allOf-map, map-at, allTwo-at, Each, each-at}
 use Rattle.rules.proofs.Firsts.{firsts-joined, firsts-left, set-false}
 use Rattle.rules.proofs.Records.{number-bounds}
 
@@ -270,7 +270,7 @@ module _ (c : ℕ) (code : List Instruction) (h : So (codeSound c code)) where
       let f : ℕ → Instruction → Bool = λ t x. inRange c (length code) x && wellPlaced code t x in
       let e : 0 + t ≡ t = omega arith in
       let x = getD code t noInstruction in
-      let w = parts (inRange c (length code) x) (wellPlaced code t x) (rw e at (allFrom-at f noInstruction 0 code (parts (leb 1 (length code) && leb (length code) 32) (allFrom f 0 code) h .1) t g)) in
+      let w = parts (inRange c (length code) x) (wellPlaced code t x) (rw e at (allFrom-at f 0 code t noInstruction (parts (leb 1 (length code) && leb (length code) 32) (allFrom f 0 code) h .1) g)) in
       (w .0, well-placed code t x (w .1))
 
   -- where no clause is due, none stands

@@ -21,7 +21,7 @@ use Rattle.node.specs.Lists.{firsts, rising, allFrom, allOf}
 use Rattle.node.specs.Mailboxes.{emptied}
 use Rattle.node.specs.Nodes.{noProcess, noMailbox, noRow, pair}
 use Rattle.node.specs.Rows.{noSignal, signals, pushed, popped}
-use Rattle.node.proofs.Lists.{firsts-length}
+use Rattle.node.proofs.Lists.{firsts-length, map-rising-at, map-rising-length}
 use Rattle.rules.specs.Answers.{Answer, refused, done}
 use Rattle.rules.specs.Behaviours.{Instruction, instruction, codeSound}
 use Rattle.rules.specs.Effects.{Effect, Sending, Birth}
@@ -31,7 +31,7 @@ use Rattle.rules.specs.Run.{runs}
 use Rattle.rules.specs.Steps.{Action, run, arrive, owner, at, withArrival, withSending, withBirth, commit, numbered, signalWaits, pairHasRoom, incoming, decide, step, state, playsOn, played, play}
 use Rattle.rules.specs.Values.{numbers, isNumber, fitsInt}
 use Rattle.rules.proofs.Accepted.{Act, step-goes}
-use Rattle.rules.proofs.All.{both, parts, allOf-any, allOf-map, made-length, made-at, made-all, all-made}
+use Rattle.rules.proofs.All.{both, parts, allOf-any, allOf-map, made-all, all-made}
 use Rattle.rules.proofs.Firsts.{firsts-joined, firsts-left, set-read, at-read}
 use Rattle.rules.proofs.Keep.{SentOk, BornOk, Keeps, Good, emptied-sound, runs-good, arrives-good}
 use Rattle.rules.proofs.Records.{number-bounds}
@@ -91,9 +91,9 @@ module _ (n : Node) where
       let w = parts (leb 1 b) (leb b (length (map g (rising 1 (n .count))))) h in
       let x = leb-true 1 b (w .0) in
       let y = leb-true b (length (map g (rising 1 (n .count)))) (w .1) in
-      let l = made-length g 1 (n .count) in
+      let l = map-rising-length g 1 (n .count) in
       let e : 1 + (b - 1) ≡ b = omega arith in
-      made-at g 1 (n .count) (b - 1) [] (omega arith) ∙ ap g e
+      map-rising-at g 1 (n .count) (b - 1) [] (omega arith) ∙ ap g e
 
 -- ---- rows
 

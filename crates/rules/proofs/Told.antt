@@ -3,14 +3,14 @@
 --   op-told           an op is refused with 25 only, and only a recv is
 --   runs-told arrives-told rule-told   the numbers of a run, of an arrival and of a rule
 --   told-31 not-told-31   31 is told by a play exactly where the node is not sound
-use mathlib.Core.Bool.{Bool, true, false, cond, not, So, _&&_}
+use mathlib.Core.Bool.{Bool, true, false, cond, not, _&&_}
 use mathlib.Core.List.{List, [], _∷_}
 use mathlib.Core.Option.{Option, none, some}
-use mathlib.Core.Path.{_≡_, refl, sym, _∙_, ap, subst}
-use Prim.Native.Nat.{ℕ, _+_, _≤_, _<_}
+use mathlib.Core.Path.{_≡_, refl, sym, _∙_, subst}
+use Prim.Native.Nat.{ℕ, _+_, _≤_}
 use native.Mathlib.Nat.{zero-add}
 use native.Mathlib.Omega.{arith}
-use borrow.Author.Tests.{ltb-true, ltb-false}
+use borrow.Author.Tests.{ltb-false}
 use lib.Dec.{leb, ltb, eqb}
 use lib.IntN.{_+ℤ_}
 use lib.ListN.{length, getD, take, drop}
@@ -33,7 +33,7 @@ use Rattle.rules.specs.Guarantees.{Stopped}
 use Rattle.rules.specs.Nodes.{Sound, sound}
 use Rattle.rules.specs.Receive.{Fit, search, receivesFit, receives}
 use Rattle.rules.specs.Run.{setsRegister, adds, compares, toProcess, toOther, opTable, runsOp, lowest, closesTo, closes, runsLive, runsIn, runs}
-use Rattle.rules.specs.Steps.{Action, run, arrive, owner, numbered, ownerBorn, signalWaits, pairHasRoom, numberFree, commit, decide, ready, rule, step, play}
+use Rattle.rules.specs.Steps.{Action, run, arrive, owner, numbered, ownerBorn, signalWaits, pairHasRoom, numberFree, decide, ready, rule, play}
 use Rattle.rules.specs.Values.{numbers, fitsInt, sameValue}
 use Rattle.rules.proofs.Accepted.{step-rule}
 use Rattle.rules.proofs.All.{Each, each-at}
