@@ -16,7 +16,7 @@ use Rattle.node.specs.Values.{intZero, normal, killed, pid}
 use Rattle.rules.proofs.Sample.{opOf, sample, started}
 use Rattle.rules.specs.Arrive.{arrives}
 use Rattle.rules.specs.Behaviours.{operand, instruction, operandInRange, inRange, hasClauses, targetsFree, wellPlaced, codeSound}
-use Rattle.rules.specs.Nodes.{unborn, live, closing, gone, sound, viewSound, view, behavioursOf, code, linkSet, standing, runningSound, rowSound}
+use Rattle.rules.specs.Nodes.{unborn, live, closing, gone, sound, shaped, viewSound, view, behavioursOf, code, linkSet, standing, runningSound, rowSound}
 use Rattle.rules.specs.Receive.{receives, fits}
 use Rattle.rules.specs.Run.{runs, runsLive, runsOp}
 use Rattle.rules.specs.Steps.{run, arrive, play, played, step, rule, ready, commit, incoming, decide, at, numbered, ownerBorn, signalWaits, pairHasRoom, numberFree}
@@ -52,7 +52,7 @@ pub sample-listing :
     ++ (116 ∷ 114 ∷ 97 ∷ 112 ∷ 61 ∷ 48 ∷ 10 ∷ [])  -- trap=0
     ++ (108 ∷ 105 ∷ 110 ∷ 107 ∷ 115 ∷ 61 ∷ 10 ∷ [])  -- links=
     ++ (109 ∷ 97 ∷ 105 ∷ 108 ∷ 61 ∷ 48 ∷ 10 ∷ [])  -- mail=0
-unfolding listingOf numberLine valueLine eachFrom members withCommas linksLine registerLine messageLine mailText standingText signalLine flightLine pairText rowsText listingText each valueText numberText intText digits digitsIn started sample opOf play played step rule ready commit incoming decide at numbered ownerBorn signalWaits pairHasRoom numberFree sound viewSound view behavioursOf code linkSet standing runningSound rowSound receives fits runs runsLive runsOp arrives operand instruction operandInRange inRange hasClauses targetsFree wellPlaced codeSound isNumber fitsInt messages joined without signals oldest pushed popped register withRegister moved advanced linksTo kindsOf
+unfolding listingOf numberLine valueLine eachFrom members withCommas linksLine registerLine messageLine mailText standingText signalLine flightLine pairText rowsText listingText each valueText numberText intText digits digitsIn started sample opOf play played step rule ready commit incoming decide at numbered ownerBorn signalWaits pairHasRoom numberFree sound shaped viewSound view behavioursOf code linkSet standing runningSound rowSound receives fits runs runsLive runsOp arrives operand instruction operandInRange inRange hasClauses targetsFree wellPlaced codeSound isNumber fitsInt messages joined without signals oldest pushed popped register withRegister moved advanced linksTo kindsOf
 sample-listing = refl
 
 -- closing, gone and live processes, a note, a link set with a comma, and signals of every kind

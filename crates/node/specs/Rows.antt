@@ -1,13 +1,16 @@
 -- Rows of signals in flight (the ether's queue of one ordered pair; document 01, "The node").
 --   noSignal      what a cell past the signals holds in an empty row
 --   emptyRow      a row with no signal
+--   fourCells r   the array of r has four cells, as its type says
 --   signals r     the signals of r, in order of sending
 --   oldest r      the signal that was sent first
 --   pushed r x    signal x is put in flight, behind the others
 --   popped r      the oldest signal leaves
+use mathlib.Core.Bool.{Bool}
 use mathlib.Core.List.{List, map}
 use Prim.Native.Nat.{_+_, _-_, min}
-use lib.ListN.{getD, set, replicate}
+use lib.Dec.{eqb}
+use lib.ListN.{length, getD, set, replicate}
 use Rattle.node.specs.declared.Cell.{Cell}
 use Rattle.node.specs.declared.Row.{Row}
 use Rattle.node.specs.declared.Signal.{Signal}
@@ -20,6 +23,9 @@ noSignal = record { signal = Msg intZero }
 
 abbrev pub emptyRow : Row
 emptyRow = record { cells = replicate 4 noSignal; count = 0 }
+
+abbrev pub fourCells : Row → Bool
+fourCells r = eqb (length (r .cells)) 4
 
 unfoldable pub signals : Row → List Signal
 signals r = map (λ (c : Cell). c .signal) (firsts noSignal (r .count) (r .cells))

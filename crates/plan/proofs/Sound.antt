@@ -11,7 +11,7 @@ use native.Mathlib.Decide.{ℕ-discrete}
 use native.Mathlib.Omega.{arith}
 use borrow.Author.Tests.{le-leb, eqb-true}
 use lib.Dec.{eqb, leb, ltb}
-use lib.ListN.{length, getD, set, replicate, length-map, getD-replicate}
+use lib.ListN.{length, getD, set, replicate, length-map, length-set, getD-replicate}
 use lib.Seq.{getD-set-other}
 use Rattle.node.specs.declared.Mailbox.{Mailbox}
 use Rattle.node.specs.declared.Node.{Node}
@@ -91,7 +91,7 @@ module _ (codes : List (List Instruction)) where
 
 -- ---- a node without mail and signals
 
-module _ (n : Node) (mail : n .mail ≡ replicate 16 emptyMailbox) (flight : n .flight ≡ replicate 256 emptyRow) where
+module _ (n : Node) (size : length (n .processes) ≡ 16) (mail : n .mail ≡ replicate 16 emptyMailbox) (flight : n .flight ≡ replicate 256 emptyRow) where
   pub quiet-sound : So (leb 1 (length (behavioursOf n)) && leb (length (behavioursOf n)) 8) → So (allOf (codeSound (length (behavioursOf n))) (behavioursOf n)) → Stands (behavioursOf n) (n .processes) → Sound n
   quiet-sound few codes all = of-parts n (record {
     few = few;
@@ -101,11 +101,12 @@ module _ (n : Node) (mail : n .mail ≡ replicate 16 emptyMailbox) (flight : n .
         let box : mailbox n i ≡ emptyMailbox = ap (λ (ms : List Mailbox). getD ms (i - 1) noMailbox) mail ∙ getD-replicate 16 (i - 1) emptyMailbox noMailbox (omega arith) in
         subst (λ (m : Mailbox). So (standingSound (behavioursOf n) i (standing (process n i) m))) (sym box) (all i h);
     rows = λ j i h g. subst (λ (rs : List Row). So (rowSound j i (signals (getD rs (pair j i) noRow)))) (sym flight) (rows-empty j i h g);
+    sized = record { processes = size; flight = ap length flight; cells = rw flight };
   })
 
 pub blank-sound : Sound blankNode
 unfolding blankNode behavioursOf code instruction operand kindsOf codeSound inRange operandInRange wellPlaced hasClauses targetsFree
-blank-sound = quiet-sound blankNode refl refl refl refl (all-unborn (behavioursOf blankNode))
+blank-sound = quiet-sound blankNode refl refl refl refl refl (all-unborn (behavioursOf blankNode))
 
 -- ---- the codes of a plan
 
@@ -151,7 +152,7 @@ plan-sound p k none =
     let placed = subst (λ (bs : List (List Instruction)). So (allOf (λ (code : List Instruction). allFrom (wellPlaced code) 0 code) bs)) is (misplaced-none firstCode (behavioursOf n) none) in
     let sounds : So (allOf (codeSound (length (behavioursOf n))) (behavioursOf n)) =
     subst (λ (bs : List (List Instruction)). So (allOf (codeSound (length (behavioursOf n))) bs)) (sym is) (subst (λ (c : ℕ). So (allOf (codeSound c) (map (map instruction) (p .codes)))) (sym size) (codes-sound (length (p .codes)) (p .codes) (k .codes) placed)) in
-    quiet-sound n (plan-keeps (λ (n : Node). n .mail) (λ n s. refl) (λ n code. refl) p) (plan-keeps (λ (n : Node). n .flight) (λ n s. refl) (λ n code. refl) p)
+    quiet-sound n (plan-keeps (λ (n : Node). length (n .processes)) (λ n s. length-set (n .processes) (s .process - 1) _) (λ n code. refl) p) (plan-keeps (λ (n : Node). n .mail) (λ n s. refl) (λ n code. refl) p) (plan-keeps (λ (n : Node). n .flight) (λ n s. refl) (λ n code. refl) p)
     (both (le-leb 1 (length (behavioursOf n)) (omega (arith, size, k .least))) (le-leb (length (behavioursOf n)) 8 (omega (arith, size, k .most))))
     sounds
     (plan-stands p (behavioursOf n) sounds (subst (λ (c : ℕ). So (allOf (startKept c) (p .starts))) (sym size) (k .starts)))

@@ -10,7 +10,7 @@ use native.Mathlib.Nat.{not-suc-le-zero, le-of-suc-le-suc}
 use native.Mathlib.Numerals.{sub-one}
 use native.Mathlib.Decide.{ℕ-discrete}
 use native.Mathlib.Omega.{arith}
-use borrow.Author.Tests.{lt-ltb, ltb-true}
+use borrow.Author.Tests.{eqb-true, lt-ltb, ltb-true}
 use lib.ListN.{length, getD, set, length-set}
 use lib.Seq.{getD-set-same, getD-set-other, set-append-left}
 use Rattle.node.specs.declared.Cell.{Cell}
@@ -21,19 +21,20 @@ use Rattle.node.specs.declared.Signal.{Signal}
 use Rattle.node.specs.Lists.{firsts, leave}
 use Rattle.node.specs.Mailboxes.{emptied}
 use Rattle.node.specs.Nodes.{noProcess, noMailbox, noRow, pair}
-use Rattle.node.specs.Rows.{noSignal, signals, oldest, pushed, popped}
+use Rattle.node.specs.Rows.{noSignal, fourCells, signals, oldest, pushed, popped}
 use Rattle.rules.specs.Answers.{done}
 use Rattle.rules.specs.Behaviours.{Instruction}
 use Rattle.rules.specs.Effects.{Effect, Sending, Birth}
-use Rattle.rules.specs.Nodes.{Sized, behavioursOf, code, process, mailbox, row}
+use Rattle.rules.specs.Nodes.{behavioursOf, code, process, mailbox, row}
 use Rattle.rules.specs.Run.{runs}
 use Rattle.rules.specs.Steps.{Action, run, arrive, owner, isUnborn, at, withArrival, withSending, withBirth, commit, numbered, ownerBorn, signalWaits, pairHasRoom, numberFree, incoming, decide}
 use Rattle.rules.specs.Values.{isNumber}
 use Rattle.rules.proofs.Accepted.{Act}
-use Rattle.rules.proofs.All.{parts}
+use Rattle.rules.proofs.All.{parts, allOf-at}
 use Rattle.rules.proofs.Keep.{SentOk, BornOk, Keeps}
 use Rattle.rules.proofs.Kept.{pair-same, owner-number, arrival-count}
 use Rattle.rules.proofs.Records.{number-bounds}
+use Rattle.rules.proofs.Shape.{Sized, arrival-length}
 
 -- ---- an element changed where it stands
 
@@ -51,10 +52,6 @@ module _ {A : Type 0} (d : A) where
   at-same f g [] k h = refl
   at-same f g (x ∷ xs) zero h = ap (λ (y : A). y ∷ xs) h
   at-same f g (x ∷ xs) (suc k) h = ap (λ (r : List A). x ∷ r) (at-same f g xs k h)
-
-  pub at-length : (f : A → A) (xs : List A) (k : ℕ) → length (at d f k xs) ≡ length xs
-  unfolding at
-  at-length f xs k = length-set xs k (f (getD xs k d))
 
   pub at-here : (f : A → A) (xs : List A) (k : ℕ) → k < length xs → getD (at d f k xs) k d ≡ f (getD xs k d)
   unfolding at
@@ -126,10 +123,6 @@ module _ {A : Type 0} (d : A) (f : Birth → A → A) where
   bear-bear l none c a = refl
   bear-bear l (some b) none a = refl
   bear-bear l (some b) (some c) a = at-comm d (f c) (f b) l (c .number - 1) (b .number - 1) (λ e. a (sym e))
-
-  pub bear-length : (l : List A) (b : Option Birth) → length (bear l b) ≡ length l
-  bear-length l none = refl
-  bear-length l (some b) = at-length d (f b) l (b .number - 1)
 
   bear-swap : (l : List A) (i m : ℕ) (x y : A) (b c : Option Birth) → i ≢ m → Off b m → Off c i → Apart b c → bear (set (bear (set l i x) b) m y) c ≡ bear (set (bear (set l m y) c) i x) b
   unfolding at
@@ -229,7 +222,7 @@ pub cells-at : (n : Node) → Sized n → (j i : ℕ) → So (isNumber j) → So
 cells-at n z j i a b =
     let x = number-bounds j a in
     let y = number-bounds i b in
-    z .cells (pair j i) (omega arith)
+    eqb-true _ _ (allOf-at fourCells noRow (n .flight) (z .cells) (pair j i) (omega (arith, z .flight)))
 
 rows-swap : (n : Node) → Sized n → (a b : Action) (o q : Option Sending) → So (numbered a) → So (numbered b) → owner a ≢ owner b → So (signalWaits n a) → So (signalWaits n b) → SentOk (owner a) o → SentOk (owner b) q → So (pairHasRoom n (owner a) o) → So (pairHasRoom n (owner b) q) →
     withSending (withArrival (withSending (withArrival (n .flight) a) (owner a) o) b) (owner b) q ≡ withSending (withArrival (withSending (withArrival (n .flight) b) (owner b) q) a) (owner a) o
@@ -242,14 +235,6 @@ rows-swap n z a b o q na nb h ga gb c d ra rb =
     ∙ ap (λ (x : List Row). withSending x (owner a) o) (sym (arrival-sending n (withArrival X b) (owner b) q a m d na (λ j u. row-arrival X b j (owner a) nb u i h) (λ j u. cells-at n z j (owner a) u i) ga rb))
 
 -- ---- a step of another owner leaves a decision as it was
-
-pub arrival-length : (X : List Row) (a : Action) → length (withArrival X a) ≡ length X
-arrival-length X (run i) = refl
-arrival-length X (arrive i j) = at-length noRow popped X (pair j i)
-
-pub sending-length : (X : List Row) (i : ℕ) (o : Option Sending) → length (withSending X i o) ≡ length X
-sending-length X i none = refl
-sending-length X i (some x) = at-length noRow (λ r. pushed r (x .signal)) X (pair i (x .to))
 
 -- a row that has a signal keeps it in front
 Same : Row → Row → Type 0

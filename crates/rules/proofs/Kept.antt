@@ -25,7 +25,7 @@ use Rattle.node.proofs.Lists.{firsts-length, map-rising-at, map-rising-length}
 use Rattle.rules.specs.Answers.{Answer, refused, done}
 use Rattle.rules.specs.Behaviours.{Instruction, instruction, codeSound}
 use Rattle.rules.specs.Effects.{Effect, Sending, Birth}
-use Rattle.rules.specs.Nodes.{Sound, sound, viewSound, view, behavioursOf, code, process, mailbox, row, standing, standingSound, signalSound, rowSound}
+use Rattle.rules.specs.Nodes.{Sound, sound, shaped, viewSound, view, behavioursOf, code, process, mailbox, row, standing, standingSound, signalSound, rowSound}
 use Rattle.rules.specs.Arrive.{arrives}
 use Rattle.rules.specs.Run.{runs}
 use Rattle.rules.specs.Steps.{Action, run, arrive, owner, at, withArrival, withSending, withBirth, commit, numbered, signalWaits, pairHasRoom, incoming, decide, step, state, playsOn, played, play}
@@ -35,6 +35,7 @@ use Rattle.rules.proofs.All.{both, parts, allOf-any, allOf-map, made-al
 use Rattle.rules.proofs.Firsts.{firsts-joined, firsts-left, set-read, at-read}
 use Rattle.rules.proofs.Keep.{SentOk, BornOk, Keeps, Good, emptied-sound, runs-good, arrives-good}
 use Rattle.rules.proofs.Records.{number-bounds}
+use Rattle.rules.proofs.Shape.{Sized, sized-of, of-sized, sized-kept}
 
 -- ---- a sound node, part by part
 
@@ -43,6 +44,7 @@ pub record Parts (n : Node) : Type 0 where
   pub codes : So (allOf (codeSound (length (behavioursOf n))) (behavioursOf n))
   pub processes : (i : ℕ) → So (isNumber i) → So (standingSound (behavioursOf n) i (standing (process n i) (mailbox n i)))
   pub rows : (j i : ℕ) → So (isNumber j) → So (isNumber i) → So (rowSound j i (signals (row n j i)))
+  pub sized : Sized n
 
 pub number-of : (i : ℕ) → 1 ≤ i → i < 17 → So (isNumber i)
 unfolding isNumber
@@ -62,7 +64,8 @@ module _ (n : Node) where
   unfolding sound viewSound view
   parts-of h =
       let fewer = leb 1 (length (behavioursOf n)) && leb (length (behavioursOf n)) 8 in
-      let a = parts (fewer && codesSound && processesSound) rowsSound h in
+      let s = parts (fewer && codesSound && processesSound && rowsSound) (shaped n) h in
+      let a = parts (fewer && codesSound && processesSound) rowsSound (s .0) in
       let b = parts (fewer && codesSound) processesSound (a .0) in
       let c = parts fewer codesSound (b .0) in
       record {
@@ -73,15 +76,17 @@ module _ (n : Node) where
             let x = number-bounds j k in
             let y = number-bounds i l in
             made-all (λ i. signals (row n j i)) (rowSound j) 1 16 (made-all (λ j. map (λ i. signals (row n j i)) numbers) (λ j rows. allFrom (rowSound j) 1 rows) 1 16 (a .1) j (omega arith) (omega arith)) i (omega arith) (omega arith);
+        sized = sized-of n (s .1);
       }
 
   pub of-parts : Parts n → Sound n
   unfolding sound viewSound view
   of-parts p =
-      both (both (both (p .few) (p .codes))
+      both (both (both (both (p .few) (p .codes))
       (all-made (λ i. standing (process n i) (mailbox n i)) (standingSound (behavioursOf n)) 1 16 (λ i a b. p .processes i (number-of i a (omega arith)))))
       (all-made (λ j. map (λ i. signals (row n j i)) numbers) (λ j rows. allFrom (rowSound j) 1 rows) 1 16 (λ j a b.
-      all-made (λ i. signals (row n j i)) (rowSound j) 1 16 (λ i c d. p .rows j i (number-of j a (omega arith)) (number-of i c (omega arith)))))
+      all-made (λ i. signals (row n j i)) (rowSound j) 1 16 (λ i c d. p .rows j i (number-of j a (omega arith)) (number-of i c (omega arith))))))
+      (of-sized n (p .sized))
 
   -- the code of a behaviour that the node has
   pub code-of : (b : ℕ) → So (leb 1 b && leb b (length (behavioursOf n))) → getD (behavioursOf n) (b - 1) [] ≡ map instruction (code n b)
@@ -268,6 +273,7 @@ commit-sound n a e p t =
       codes = p .codes;
       processes = birth-ok (behavioursOf n) _ _ (e .born) (owner-ok (behavioursOf n) (n .processes) (n .mail) (owner a) (e .process) (e .mail) (p .processes) m (k .sound)) (k .birth);
       rows = sending-ok n a (owner a) (e .sent) (arrival-ok (n .flight) a (p .rows) (t .numbers)) m (k .sent) (t .room);
+      sized = sized-kept n a e (p .sized);
     }
 
 -- an accepted step leaves a sound node

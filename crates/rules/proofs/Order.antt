@@ -5,65 +5,33 @@ use mathlib.Core.List.{List, [], _∷_}
 use mathlib.Core.Logic.{_≢_}
 use mathlib.Core.Option.{Option, none, some}
 use mathlib.Core.Path.{_≡_, refl, sym, _∙_, ap}
-use Prim.Native.Nat.{ℕ, zero, suc, _-_, _≤_, _<_}
-use native.Mathlib.Decide.{ℕ-discrete}
+use Prim.Native.Nat.{ℕ, zero, suc, _-_, _≤_}
 use native.Mathlib.Numerals.{add-one}
 use native.Mathlib.Omega.{arith}
 use lib.Dec.{ltb}
-use lib.ListN.{length, getD, set, take, drop, length-set}
+use lib.ListN.{length, getD, set, take, drop}
 use lib.Seq.{getD-set-other}
 use Rattle.node.specs.declared.Node.{Node}
 use Rattle.node.specs.declared.Process.{Process}
-use Rattle.node.specs.declared.Row.{Row}
 use Rattle.node.specs.declared.Stage.{Stage}
 use Rattle.node.specs.declared.Stage.the-variants.{Unborn, Live, Closing, Gone}
-use Rattle.node.specs.Nodes.{noProcess, noRow, pair}
+use Rattle.node.specs.Nodes.{noProcess}
 use Rattle.node.specs.Processes.{gone, unlinked, linksTo}
-use Rattle.node.specs.Rows.{noSignal, pushed, popped}
-use Rattle.node.proofs.Lists.{leave-length}
 use Rattle.rules.specs.Answers.{Answer, refused, done}
 use Rattle.rules.specs.Calls.{Call, single, schedule, nodeBehind, ifAccepted, callNode, callSteps, after, accepted, acceptedBy}
 use Rattle.rules.specs.Effects.{Effect, Sending, Birth, State}
 use Rattle.rules.specs.Guarantees.{Order, SoundKept, Stopped, PlayIsSteps, undecided, full, taken, Exclusive, rank, Forward}
-use Rattle.rules.specs.Nodes.{sound, Sound, Sized, Equal, view, behavioursOf, code, process}
+use Rattle.rules.specs.Nodes.{sound, Sound, Equal, view, behavioursOf, code, process}
 use Rattle.rules.specs.Arrive.{arrivesIn, arrives}
 use Rattle.rules.specs.Run.{lowest, closesTo, closes, runsIn, runs}
 use Rattle.rules.specs.Values.{numbers}
-use Rattle.rules.specs.Steps.{Action, run, arrive, owner, isUnborn, ownerBorn, pairHasRoom, numberFree, at, withArrival, withSending, withBirth, state, incoming, commit, decide, step, playsOn, played, play}
+use Rattle.rules.specs.Steps.{Action, run, arrive, owner, isUnborn, ownerBorn, pairHasRoom, numberFree, at, withBirth, state, incoming, commit, decide, step, playsOn, played, play}
 use Rattle.rules.proofs.Accepted.{Act, goes-rule, step-rule, step-goes}
-use Rattle.rules.proofs.Commute.{at-here, at-else, arrival-length, sending-length, bear-length, act-kept, free-back, free-on, Off, free-off, off-a, commits-swap}
+use Rattle.rules.proofs.Commute.{act-kept, free-back, free-on, Off, free-off, off-a, commits-swap}
 use Rattle.rules.proofs.Keep.{Keeps, NotBoth}
 use Rattle.rules.proofs.Kept.{parts-of, decided-keeps, act-keeps, step-sound, play-sound, play-played, owner-number}
 use Rattle.rules.proofs.Records.{number-bounds}
 use Rattle.rules.proofs.Trace.{Runs, runs-append, Laws, order-runs}
-
--- ---- arrays keep their lengths
-
-module _ (X : List Row) (long : length X ≡ 256) (four : (k : ℕ) → k < 256 → length (getD X k noRow .cells) ≡ 4) (f : Row → Row) (keeps : (r : Row) → length (f r .cells) ≡ length (r .cells)) where
-  cells-at : (l k : ℕ) → k < 256 → length (getD (at noRow f l X) k noRow .cells) ≡ 4
-  cells-at l k h = go (ℕ-discrete k l)
-    where
-      go : Dec (k ≡ l) → length (getD (at noRow f l X) k noRow .cells) ≡ 4
-      go (yes e) = rw (← e, at-here noRow f X k (rw long h)) (keeps (getD X k noRow) ∙ four k h)
-      go (no n) = rw (at-else noRow f X l k n) (four k h)
-
-arrival-cells : (X : List Row) (a : Action) → length X ≡ 256 → ((k : ℕ) → k < 256 → length (getD X k noRow .cells) ≡ 4) → (k : ℕ) → k < 256 → length (getD (withArrival X a) k noRow .cells) ≡ 4
-unfolding popped
-arrival-cells X (run i) long four = four
-arrival-cells X (arrive i j) long four = cells-at X long four popped (λ r. leave-length noSignal 0 (r .cells)) (pair j i)
-
-sending-cells : (X : List Row) (i : ℕ) (o : Option Sending) → length X ≡ 256 → ((k : ℕ) → k < 256 → length (getD X k noRow .cells) ≡ 4) → (k : ℕ) → k < 256 → length (getD (withSending X i o) k noRow .cells) ≡ 4
-unfolding pushed
-sending-cells X i none long four = four
-sending-cells X i (some x) long four = cells-at X long four (λ r. pushed r (x .signal)) (λ r. length-set (r .cells) (r .count) _) (pair i (x .to))
-
-sized-kept : (n : Node) (a : Action) (e : Effect) → Sized n → Sized (commit n a e)
-unfolding commit
-sized-kept n a e z = record {
-  processes = bear-length noProcess (λ b p. b .process) (set (n .processes) (owner a - 1) (e .process)) (e .born) ∙ length-set (n .processes) (owner a - 1) (e .process) ∙ z .processes;
-  flight = sending-length (withArrival (n .flight) a) (owner a) (e .sent) ∙ arrival-length (n .flight) a ∙ z .flight;
-  cells = sending-cells (withArrival (n .flight) a) (owner a) (e .sent) (arrival-length (n .flight) a ∙ z .flight) (arrival-cells (n .flight) a (z .flight) (z .cells));
-}
 
 -- ---- the laws of steps
 
@@ -71,16 +39,14 @@ sized-kept n a e z = record {
 abbrev Owner : ℕ → Type 0
 Owner i = (1 ≤ i) × (i ≤ 16)
 
-abbrev Whole : Node → Type 0
-Whole n = Sized n × Sound n
-
 Ready : Node → Action → Type 0
 Ready n a = (e : Effect) × Act n a e
 
-swaps : (n m k : Node) (a b : Action) → Whole n → owner a ≢ owner b → Ready n a → step n b ≡ done m → step m a ≡ done k → (l : Node) × (step n a ≡ done l) × (step l b ≡ done k)
+swaps : (n m k : Node) (a b : Action) → Sound n → owner a ≢ owner b → Ready n a → step n b ≡ done m → step m a ≡ done k → (l : Node) × (step n a ≡ done l) × (step l b ≡ done k)
 unfolding Ready
 swaps n m k a b w h r p q =
-    let parts = parts-of n (w .1) in
+    let parts = parts-of n w in
+    let z = parts .sized in
     let x = step-goes n b m p .1 in
     let e = r .0 in
     let f = x .effect in
@@ -89,28 +55,28 @@ swaps n m k a b w h r p q =
     let ek = act-keeps n a e parts s in
     let fk = act-keeps n b f parts t in
     let y = step-goes (commit n b f) a k (rw (x .to) at q) .1 in
-    let c = act-kept n (w .0) a b e f h s t ek fk (x .free) in
+    let c = act-kept n z a b e f h s t ek fk (x .free) in
     let d : y .effect ≡ e = cc (y .act .decided, c .decided) in
     let free : So (numberFree (commit n b f) (e .born)) = rw d at (y .free) in
-    let z = free-back n (w .0) a b e f h s t ek fk (x .free) free (e .born) free in
+    let back = free-back n z a b e f h s t ek fk (x .free) free (e .born) free in
     let l = commit n a e in
-    let first : step n a ≡ done l = step-rule n a (w .1) ∙ goes-rule n a e s (z .1) in
-    let behind : Act l b f = act-kept n (w .0) b a f e (λ o. h (sym o)) t s fk ek (z .1) in
-    let still : So (numberFree l (f .born)) = free-on n (w .0) a b e f h s t ek fk (x .free) free (f .born) (x .free) (off-a n (w .0) a b e f h s t ek fk (x .free)) (z .2) in
+    let first : step n a ≡ done l = step-rule n a w ∙ goes-rule n a e s (back .1) in
+    let behind : Act l b f = act-kept n z b a f e (λ o. h (sym o)) t s fk ek (back .1) in
+    let still : So (numberFree l (f .born)) = free-on n z a b e f h s t ek fk (x .free) free (f .born) (x .free) (off-a n z a b e f h s t ek fk (x .free)) (back .2) in
     let second : step l b ≡ done (commit l b f) = step-rule l b (step-sound n l a first) ∙ goes-rule l b f behind still in
-    let same : commit l b f ≡ k = commits-swap n (w .0) a b e f h s t ek fk (x .free) free ∙ ap (commit (commit n b f) a) (sym d) ∙ sym (y .to) in
+    let same : commit l b f ≡ k = commits-swap n z a b e f h s t ek fk (x .free) free ∙ ap (commit (commit n b f) a) (sym d) ∙ sym (y .to) in
     (l, first, second ∙ ap done same)
 
-laws : Laws step owner Owner Whole Ready
+laws : Laws step owner Owner Sound Ready
 unfolding Ready
 laws = record {
   owns = λ n m a p. number-bounds (owner a) (owner-number a (step-goes n a m p .1 .act .numbers));
-  sound = λ n m a w p. let x = step-goes n a m p .1 in (rw (x .to) (sized-kept n a (x .effect) (w .0)), step-sound n m a p);
+  sound = λ n m a w p. step-sound n m a p;
   ready = λ n m a w p. let x = step-goes n a m p .1 in (x .effect, x .act);
   keeps = λ n m a b w h r p.
       let x = step-goes n b m p .1 in
-      let parts = parts-of n (w .1) in
-      (r .0, rw (x .to) (act-kept n (w .0) a b (r .0) (x .effect) h (r .1) (x .act) (act-keeps n a (r .0) parts (r .1)) (act-keeps n b (x .effect) parts (x .act)) (x .free)));
+      let parts = parts-of n w in
+      (r .0, rw (x .to) (act-kept n (parts .sized) a b (r .0) (x .effect) h (r .1) (x .act) (act-keeps n a (r .0) parts (r .1)) (act-keeps n b (x .effect) parts (x .act)) (x .free)));
   swaps = swaps;
 }
 
@@ -152,11 +118,11 @@ calls-run n (c ∷ cs) = runs-append step n (callNode n c) _ (callSteps n c) _ (
 -- ---- the guarantees
 
 pub order : Order
-order n z s a b h = order-runs step owner Owner Whole Ready laws n _ _ (accepted n a) (accepted n b) (z, s) (calls-run n a) (calls-run n b) (λ i o. h i (o .0) (o .1))
+order n s a b h = order-runs step owner Owner Sound Ready laws n _ _ (accepted n a) (accepted n b) s (calls-run n a) (calls-run n b) (λ i o. h i (o .0) (o .1))
 
 -- the same in document 01's words: equal nodes
-pub order-equal : (n : Node) → Sized n → Sound n → (a b : List Call) → ((i : ℕ) → 1 ≤ i → i ≤ 16 → acceptedBy i n a ≡ acceptedBy i n b) → Equal (after n a) (after n b)
-order-equal n z s a b h = ap view (order n z s a b h)
+pub order-equal : (n : Node) → Sound n → (a b : List Call) → ((i : ℕ) → 1 ≤ i → i ≤ 16 → acceptedBy i n a ≡ acceptedBy i n b) → Equal (after n a) (after n b)
+order-equal n s a b h = ap view (order n s a b h)
 
 pub sound-kept : SoundKept
 sound-kept = (step-sound, play-sound)

@@ -1,4 +1,4 @@
--- The record operations are the list and set operations on what a record holds, and soundness goes by the view alone.
+-- The record operations are the list and set operations on what a record holds, and soundness goes by the view and the lengths of arrays alone.
 -- A mailbox has 16 slots, a row 4 cells and a link set 16 entries: their types say so. Assumes nothing.
 use mathlib.Core.Bool.{Bool, true, false, not, _&&_, _||_, and-eq-true-iff}
 use mathlib.Core.List.{List, [], _∷_, _++_, map}
@@ -25,7 +25,7 @@ use Rattle.node.specs.Mailboxes.{noMessage, messages, joined, without, emptied}
 use Rattle.node.specs.Processes.{linksTo, linked, unlinked, ended, gone}
 use Rattle.node.specs.Rows.{noSignal, signals, oldest, pushed, popped}
 use Rattle.node.proofs.Lists.{firsts-join, firsts-leave, firsts-behind, map-append, map-take, map-drop}
-use Rattle.rules.specs.Nodes.{Equal, sound, viewSound, linkSet, standing}
+use Rattle.rules.specs.Nodes.{Equal, sound, shaped, viewSound, linkSet, standing}
 use Rattle.rules.specs.Nodes as nodes
 use Rattle.rules.specs.Values.{isNumber}
 
@@ -136,8 +136,8 @@ pub standing-gone : (p : Process) (m : Mailbox) → standing (gone p) m ≡ node
 unfolding standing gone
 standing-gone p m = refl
 
--- ---- soundness goes by the view alone
+-- ---- soundness goes by the view alone, beside the lengths of arrays
 
-pub sound-by-view : (n m : Node) → Equal n m → sound n ≡ sound m
+pub sound-by-view : (n m : Node) → Equal n m → shaped n ≡ shaped m → sound n ≡ sound m
 unfolding sound
-sound-by-view n m e = ap viewSound e
+sound-by-view n m e h = λ i. viewSound (e i) && h i

@@ -15,14 +15,14 @@ use Rattle.node.specs.declared.Stage.the-variants.{Unborn, Live, Closing, Gone}
 use Rattle.rules.specs.Answers.{refused, done, pairFull, notUnborn}
 use Rattle.rules.specs.Calls.{Call, after, acceptedBy}
 use Rattle.rules.specs.Effects.{Effect}
-use Rattle.rules.specs.Nodes.{Sound, Sized, process}
+use Rattle.rules.specs.Nodes.{Sound, process}
 use Rattle.rules.specs.Steps.{Action, owner, numbered, signalWaits, pairHasRoom, numberFree, decide, step, play}
 
 -- For every sound node and every two lists of calls, single steps or plays, refused steps included: where each process 1 to 16 has the same
 -- accepted steps in the same order, the nodes after them are one and the same record, hence equal nodes.
 abbrev pub Order : Type 0
 Order =
-    (n : Node) → Sized n → Sound n → (a b : List Call) →
+    (n : Node) → Sound n → (a b : List Call) →
     ((i : ℕ) → 1 ≤ i → i ≤ 16 → acceptedBy i n a ≡ acceptedBy i n b) →
     after n a ≡ after n b
 

@@ -5,12 +5,12 @@
 --   View           document 01's node: behaviours, processes and rows in flight, with nothing that a record only keeps room for
 --   view n         what the record n holds
 --   Equal n m      equal nodes
+--   shaped n       the arrays of n are as long as their types say
 --   sound n        "A node is sound when"; Sound n is its proposition
---   Sized n        the arrays of n are as long as their types say
 use mathlib.Core.Bool.{Bool, true, _&&_, not, So}
 use mathlib.Core.List.{List, [], _∷_, map}
 use mathlib.Core.Path.{_≡_}
-use Prim.Native.Nat.{ℕ, _-_, _*_, _<_}
+use Prim.Native.Nat.{ℕ, _-_, _*_}
 use lib.Dec.{leb, eqb}
 use lib.ListN.{length, getD, drop}
 use Rattle.node.specs.declared.Mailbox.{Mailbox}
@@ -28,7 +28,7 @@ use Rattle.node.specs.Lists.{firsts, rising, allFrom, allOf}
 use Rattle.node.specs.Mailboxes.{messages}
 use Rattle.node.specs.Nodes.{noOp, noProcess, noMailbox, noRow, pair}
 use Rattle.node.specs.Processes.{linksTo}
-use Rattle.node.specs.Rows.{signals}
+use Rattle.node.specs.Rows.{fourCells, signals}
 use Rattle.rules.specs.Behaviours.{Instruction, instruction, onClause, codeSound}
 use Rattle.rules.specs.Values.{numbers, isNumber, valueSound, messageSound}
 
@@ -136,14 +136,13 @@ viewSound v =
     && allFrom (standingSound (v .behaviours)) 1 (v .processes)
     && allFrom (λ j rows. allFrom (rowSound j) 1 rows) 1 (v .flight)
 
+-- A record of this logic holds lists of any length, and an array of the code has as many elements as its type says: so no code tests
+-- this (crate `soundness` proves it of every node that it is given), and no node of the code is not sound for it.
+unfoldable pub shaped : Node → Bool
+shaped n = eqb (length (n .processes)) 16 && eqb (length (n .flight)) 256 && allOf fourCells (n .flight)
+
 unfoldable pub sound : Node → Bool
-sound n = viewSound (view n)
+sound n = viewSound (view n) && shaped n
 
 abbrev pub Sound : Node → Type 0
 Sound n = So (sound n)
-
--- Beside the test: the arrays are as long as their types say, which holds of every node that code can hold.
-pub record Sized (n : Node) : Type 0 where
-  pub processes : length (n .processes) ≡ 16
-  pub flight : length (n .flight) ≡ 256
-  pub cells : (k : ℕ) → k < 256 → length (getD (n .flight) k noRow .cells) ≡ 4

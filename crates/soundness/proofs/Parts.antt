@@ -1,12 +1,15 @@
 -- What the code reads of the arrays of a node is what `sound` reads of its view. Assumes nothing.
-use mathlib.Core.Bool.{Bool, true, false, _&&_}
+use mathlib.Core.Bool.{Bool, true, false, So, _&&_, and-true}
 use mathlib.Core.List.{List, []}
 use mathlib.Core.Path.{_≡_, refl, sym, _∙_, ap}
 use Prim.Native.Nat.{ℕ, _+_, _-_, _≤_, _<_}
 use native.Mathlib.Omega.{arith}
 use borrow.Author.Tests.{ltb-false, ltb-true}
+use denote.Shadow.{shadow}
+use denote.Struct.Declared.{row}
 use lib.Dec.{eqb, leb, ltb}
 use lib.ListN.{length, getD, List·getD-eq-default}
+use mir.Val.{Val}
 use Rattle.node.specs.declared.Mailbox.{Mailbox}
 use Rattle.node.specs.declared.Node.{Node}
 use Rattle.node.specs.declared.Op.{Op}
@@ -15,9 +18,12 @@ use Rattle.node.specs.declared.Stage.{Stage}
 use Rattle.node.specs.declared.Stage.the-variants.{Unborn, Live, Closing, Gone}
 use Rattle.node.specs.Lists.{allFrom, allOf}
 use Rattle.node.specs.Nodes.{noMailbox, noOp, noProcess}
+use Rattle.node.proofs.Good.{sized-node}
 use Rattle.node.proofs.Lists.{map-rising-at}
+use Rattle.node.proofs.Node.{the-type as node-type}
 use Rattle.rules.specs.Behaviours.{Instruction, codeSound, onClause}
-use Rattle.rules.specs.Nodes.{behavioursOf, code, gone, rowSound, runningSound, sound, standing, standingIn, standingSound, view, viewSound}
+use Rattle.rules.specs.Nodes.{behavioursOf, code, gone, rowSound, runningSound, shaped, sound, standing, standingIn, standingSound, view, viewSound}
+use Rattle.rules.proofs.Shape.{of-sized}
 use Rattle.behaviours.specs.Codes.{codeIn, codesIn}
 use Rattle.behaviours.proofs.Codes.{code-length, codes-at, codes-length, on-clause-at, on-clause-end}
 use Rattle.soundness.specs.Parts.{flightIn, lengthIn, opPlace, runningTold, standingTold, standingsIn}
@@ -87,6 +93,10 @@ told-at c lens ops ps ms k at there h s ea et =
 
 -- ---- the node
 
-pub sound-by : (n : Node) → sound n ≡ (leb 1 (n .count) && leb (n .count) 8 && allOf (codeSound (n .count)) (codesIn (n .count) (n .lens) (n .ops)) && allFrom (standingSound (codesIn (n .count) (n .lens) (n .ops))) 1 (standingsIn (n .processes) (n .mail)) && allFrom (λ j rows. allFrom (rowSound j) 1 rows) 1 (flightIn (n .flight)))
+-- a node that code holds has its arrays in full
+pub shaped-node : (n : Node) {vs : List Val} → shadow (row node-type .own n vs) → So (shaped n)
+shaped-node n g = let z = sized-node n g in of-sized n (record { processes = z .processes; flight = z .flight; cells = z .cells })
+
+pub sound-by : (n : Node) → So (shaped n) → sound n ≡ (leb 1 (n .count) && leb (n .count) 8 && allOf (codeSound (n .count)) (codesIn (n .count) (n .lens) (n .ops)) && allFrom (standingSound (codesIn (n .count) (n .lens) (n .ops))) 1 (standingsIn (n .processes) (n .mail)) && allFrom (λ j rows. allFrom (rowSound j) 1 rows) 1 (flightIn (n .flight)))
 unfolding sound viewSound view behavioursOf code codesIn codeIn standingsIn flightIn
-sound-by n = rw (codes-length (n .count) (n .lens) (n .ops))
+sound-by n h = rw (h, codes-length (n .count) (n .lens) (n .ops), and-true)

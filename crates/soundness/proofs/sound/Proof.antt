@@ -8,7 +8,7 @@ use Rattle.node.specs.Rows.{signals}
 use Rattle.rules.specs.Nodes.{rowSound, sound as soundOf}
 use Rattle.behaviours.proofs.Tests.{failed, passed}
 use Rattle.soundness.proofs.Blocks.{flight-rows, row-empty}
-use Rattle.soundness.proofs.Parts.{sound-by}
+use Rattle.soundness.proofs.Parts.{shaped-node, sound-by}
 use borrow.Author.Needs.{needs}
 use lib.ListN.{length, getD, drop}
 use mathlib.Core.Logic.{⊎-elim}
@@ -27,19 +27,20 @@ behaviours-sound-requires : tie.Need-behaviours-sound-requires Inv-loop μ-loop
 behaviours-sound-requires c κs = search needs
 
 returns : tie.Need-returns Inv-loop μ-loop
-returns c = sym (sound-by (c .before .before .before .before .args .t1) ∙ rw (failed (c .before .behaviours-sound .ensures) (c .if1 .taken)))
+returns c = sym (sound-by (c .before .before .before .before .args .t1) (shaped-node _ (c .before .before .before .before .good .0)) ∙ rw (failed (c .before .behaviours-sound .ensures) (c .if1 .taken)))
 
 processes-sound-requires : tie.Need-processes-sound-requires Inv-loop μ-loop
 processes-sound-requires c κs = search needs
 
 returns-2 : tie.Need-returns-2 Inv-loop μ-loop
-returns-2 c = sym (sound-by (c .before .before .before .before .before .before .before .before .args .t1) ∙ rw (passed (c .before .before .before .before .before .behaviours-sound .ensures) (c .before .before .before .before .if1 .left), failed (c .before .processes-sound .ensures) (c .if2 .taken)))
+returns-2 c = sym (sound-by (c .before .before .before .before .before .before .before .before .args .t1) (shaped-node _ (c .before .before .before .before .before .before .before .before .good .0)) ∙ rw (passed (c .before .before .before .before .before .behaviours-sound .ensures) (c .before .before .before .before .if1 .left), failed (c .before .processes-sound .ensures) (c .if2 .taken)))
 
 loop-holds : tie.Need-loop-holds Inv-loop μ-loop
 loop-holds c =
     let n = c .before .before .before .before .before .before .before .before .args .t1 in
-    let size = sized-node n (c .before .before .before .before .before .before .before .before .good .0) .flight in
-    (search needs, size, sound-by n ∙ rw (passed (c .before .before .before .before .before .behaviours-sound .ensures) (c .before .before .before .before .if1 .left), passed (c .before .processes-sound .ensures) (c .if2 .left)) (flight-rows (n .flight) size))
+    let good = c .before .before .before .before .before .before .before .before .good .0 in
+    let size = sized-node n good .flight in
+    (search needs, size, sound-by n (shaped-node n good) ∙ rw (passed (c .before .before .before .before .before .behaviours-sound .ensures) (c .before .before .before .before .if1 .left), passed (c .before .processes-sound .ensures) (c .if2 .left)) (flight-rows (n .flight) size))
 
 mul-if3 : tie.Need-mul-if3 Inv-loop μ-loop
 mul-if3 c = search needs
