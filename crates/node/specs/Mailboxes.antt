@@ -5,9 +5,12 @@
 --   joined m x       message x joins, behind the others
 --   without m k      message k leaves, the rest keep their order
 --   emptied m        all messages leave
+--   sixteenSlots m   the array of m has sixteen slots, as its type says
+use mathlib.Core.Bool.{Bool}
 use mathlib.Core.List.{List, map}
 use Prim.Native.Nat.{ℕ, _+_, _-_, min}
-use lib.ListN.{set, replicate}
+use lib.Dec.{eqb}
+use lib.ListN.{length, set, replicate}
 use Rattle.node.specs.declared.Mailbox.{Mailbox}
 use Rattle.node.specs.declared.Message.{Message}
 use Rattle.node.specs.declared.Message.the-variants.{Plain}
@@ -33,3 +36,6 @@ without m k = record { slots = leave noMessage k (m .slots); count = m .count - 
 
 unfoldable pub emptied : Mailbox → Mailbox
 emptied m = record { slots = m .slots; count = 0 }
+
+abbrev pub sixteenSlots : Mailbox → Bool
+sixteenSlots m = eqb (length (m .slots)) 16

@@ -11,12 +11,13 @@
 --   unlinked p j       j leaves the link set
 --   ended p v          the process ends with reason v, and is closing; its links are unchanged
 --   gone p             the process is gone
+--   sixteenLinks p     the array of links has sixteen elements, as its type says
 -- A number that is no register is read as 3, and 0 as process 1; neither occurs in a sound node.
 use mathlib.Core.Bool.{Bool, true, false, cond}
 use mathlib.Core.List.{List}
 use Prim.Native.Nat.{ℕ, _+_, _-_, min}
 use lib.Dec.{eqb}
-use lib.ListN.{getD, set, replicate}
+use lib.ListN.{length, getD, set, replicate}
 use Rattle.node.specs.declared.BehaviourNumber.{BehaviourNumber}
 use Rattle.node.specs.declared.Process.{Process}
 use Rattle.node.specs.declared.Stage.{Stage}
@@ -81,3 +82,6 @@ ended p v = withStage p Closing v
 
 unfoldable pub gone : Process → Process
 gone p = withStage p Gone (p .reason)
+
+abbrev pub sixteenLinks : Process → Bool
+sixteenLinks p = eqb (length (p .links)) 16

@@ -6,13 +6,13 @@
 use mathlib.Core.Bool.{Bool, true, false, So, _&&_, cond}
 use mathlib.Core.List.{List, [], _∷_, map}
 use mathlib.Core.Path.{_≡_, refl, sym, ap, subst, _∙_}
-use Prim.Native.Nat.{ℕ, _-_}
+use Prim.Native.Nat.{ℕ, _-_, _*_}
 use native.Mathlib.Decide.{ℕ-discrete}
 use native.Mathlib.Omega.{arith}
 use borrow.Author.Tests.{le-leb, eqb-true}
 use lib.Dec.{eqb, leb, ltb}
 use lib.ListN.{length, getD, set, replicate, length-map, length-set, getD-replicate}
-use lib.Seq.{getD-set-other}
+use lib.Seq.{getD-set-other, length-sets}
 use Rattle.node.specs.declared.Mailbox.{Mailbox}
 use Rattle.node.specs.declared.Node.{Node}
 use Rattle.node.specs.declared.Op.{Op}
@@ -22,7 +22,7 @@ use Rattle.node.specs.Lists.{allFrom, allOf}
 use Rattle.node.specs.Mailboxes.{emptied, emptyMailbox}
 use Rattle.node.specs.Ops.{kindsOf}
 use Rattle.node.specs.Nodes.{blankNode, noProcess, noMailbox, noRow, pair}
-use Rattle.node.specs.Processes.{fresh, unborn}
+use Rattle.node.specs.Processes.{fresh, sixteenLinks, unborn}
 use Rattle.node.specs.Rows.{emptyRow, signals}
 use Rattle.node.specs.Values.{intZero}
 use Rattle.node.proofs.Lists.{allFrom-both, allOf-from}
@@ -34,6 +34,7 @@ use Rattle.rules.proofs.Firsts.{set-read}
 use Rattle.rules.proofs.Keep.{fresh-sound}
 use Rattle.rules.proofs.Kept.{of-parts}
 use Rattle.rules.proofs.Records.{number-bounds}
+use Rattle.rules.proofs.Shape.{Sized, set-all}
 use Rattle.text.specs.Parts.{linesOf}
 use Rattle.placement.specs.Misplaced.{firstCode}
 use Rattle.placement.proofs.Placed.{misplaced-none}
@@ -91,7 +92,7 @@ module _ (codes : List (List Instruction)) where
 
 -- ---- a node without mail and signals
 
-module _ (n : Node) (size : length (n .processes) ≡ 16) (mail : n .mail ≡ replicate 16 emptyMailbox) (flight : n .flight ≡ replicate 256 emptyRow) where
+module _ (n : Node) (sized : Sized n) (mail : n .mail ≡ replicate 16 emptyMailbox) (flight : n .flight ≡ replicate 256 emptyRow) where
   pub quiet-sound : So (leb 1 (length (behavioursOf n)) && leb (length (behavioursOf n)) 8) → So (allOf (codeSound (length (behavioursOf n))) (behavioursOf n)) → Stands (behavioursOf n) (n .processes) → Sound n
   quiet-sound few codes all = of-parts n (record {
     few = few;
@@ -101,12 +102,16 @@ module _ (n : Node) (size : length (n .processes) ≡ 16) (mail : n .mail ≡ re
         let box : mailbox n i ≡ emptyMailbox = ap (λ (ms : List Mailbox). getD ms (i - 1) noMailbox) mail ∙ getD-replicate 16 (i - 1) emptyMailbox noMailbox (omega arith) in
         subst (λ (m : Mailbox). So (standingSound (behavioursOf n) i (standing (process n i) m))) (sym box) (all i h);
     rows = λ j i h g. subst (λ (rs : List Row). So (rowSound j i (signals (getD rs (pair j i) noRow)))) (sym flight) (rows-empty j i h g);
-    sized = record { processes = size; flight = ap length flight; cells = rw flight };
+    sized = sized;
   })
+
+blank-sized : Sized blankNode
+unfolding blankNode
+blank-sized = record { lens = refl; ops = refl; processes = refl; links = refl; mail = refl; slots = refl; flight = refl; cells = refl }
 
 pub blank-sound : Sound blankNode
 unfolding blankNode behavioursOf code instruction operand kindsOf codeSound inRange operandInRange wellPlaced hasClauses targetsFree
-blank-sound = quiet-sound blankNode refl refl refl refl refl (all-unborn (behavioursOf blankNode))
+blank-sound = quiet-sound blankNode blank-sized refl refl refl refl (all-unborn (behavioursOf blankNode))
 
 -- ---- the codes of a plan
 
@@ -137,6 +142,42 @@ plan-keeps : {B : Type 0} (get : Node → B) → ((n : Node) (s : Start) → get
 unfolding nodeOf
 plan-keeps get h g p = each-keeps get withStart h (withEach withCode emptyNode (p .codes)) (p .starts) ∙ each-keeps get withCode g emptyNode (p .codes)
 
+-- its arrays are as long as their types say
+code-sized : (n : Node) (code : List Op) → Sized n → Sized (withCode n code)
+code-sized n code z = record {
+  lens = length-set (n .lens) (n .count) (length code) ∙ z .lens;
+  ops = length-sets (n .ops) (n .count * 32) code ∙ z .ops;
+  processes = z .processes;
+  links = z .links;
+  mail = z .mail;
+  slots = z .slots;
+  flight = z .flight;
+  cells = z .cells;
+}
+
+start-sized : (n : Node) (s : Start) → Sized n → Sized (withStart n s)
+start-sized n s z = record {
+  lens = z .lens;
+  ops = z .ops;
+  processes = length-set (n .processes) (s .process - 1) _ ∙ z .processes;
+  links = set-all noProcess sixteenLinks (s .process - 1) (n .processes) _ refl (z .links);
+  mail = z .mail;
+  slots = z .slots;
+  flight = z .flight;
+  cells = z .cells;
+}
+
+each-sized : {A : Type 0} (f : Node → A → Node) → ((n : Node) (x : A) → Sized n → Sized (f n x)) → (n : Node) (xs : List A) → Sized n → Sized (withEach f n xs)
+each-sized f h n [] z = z
+each-sized f h n (x ∷ xs) z = each-sized f h (f n x) xs (h n x z)
+
+empty-sized : Sized emptyNode
+empty-sized = record { lens = refl; ops = refl; processes = refl; links = refl; mail = refl; slots = refl; flight = refl; cells = refl }
+
+plan-sized : (p : Plan) → Sized (nodeOf p)
+unfolding nodeOf
+plan-sized p = each-sized withStart start-sized _ (p .starts) (each-sized withCode code-sized _ (p .codes) empty-sized)
+
 plan-stands : (p : Plan) (codes : List (List Instruction)) → So (allOf (codeSound (length codes)) codes) → So (allOf (startKept (length codes)) (p .starts)) → Stands codes (nodeOf p .processes)
 unfolding nodeOf
 plan-stands p codes sounds h =
@@ -152,7 +193,7 @@ plan-sound p k none =
     let placed = subst (λ (bs : List (List Instruction)). So (allOf (λ (code : List Instruction). allFrom (wellPlaced code) 0 code) bs)) is (misplaced-none firstCode (behavioursOf n) none) in
     let sounds : So (allOf (codeSound (length (behavioursOf n))) (behavioursOf n)) =
     subst (λ (bs : List (List Instruction)). So (allOf (codeSound (length (behavioursOf n))) bs)) (sym is) (subst (λ (c : ℕ). So (allOf (codeSound c) (map (map instruction) (p .codes)))) (sym size) (codes-sound (length (p .codes)) (p .codes) (k .codes) placed)) in
-    quiet-sound n (plan-keeps (λ (n : Node). length (n .processes)) (λ n s. length-set (n .processes) (s .process - 1) _) (λ n code. refl) p) (plan-keeps (λ (n : Node). n .mail) (λ n s. refl) (λ n code. refl) p) (plan-keeps (λ (n : Node). n .flight) (λ n s. refl) (λ n code. refl) p)
+    quiet-sound n (plan-sized p) (plan-keeps (λ (n : Node). n .mail) (λ n s. refl) (λ n code. refl) p) (plan-keeps (λ (n : Node). n .flight) (λ n s. refl) (λ n code. refl) p)
     (both (le-leb 1 (length (behavioursOf n)) (omega (arith, size, k .least))) (le-leb (length (behavioursOf n)) 8 (omega (arith, size, k .most))))
     sounds
     (plan-stands p (behavioursOf n) sounds (subst (λ (c : ℕ). So (allOf (startKept c) (p .starts))) (sym size) (k .starts)))

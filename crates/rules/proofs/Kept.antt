@@ -3,7 +3,7 @@ use mathlib.Core.Bool.{Bool, true, false, So, cond, _&&_}
 use mathlib.Core.List.{List, [], _∷_, map}
 use mathlib.Core.Logic.{_≢_}
 use mathlib.Core.Option.{Option, none, some}
-use mathlib.Core.Path.{_≡_, refl, _∙_, ap}
+use mathlib.Core.Path.{_≡_, refl, _∙_, ap, subst}
 use Prim.Native.Nat.{ℕ, suc, _+_, _-_, _≤_, _<_, min}
 use native.Mathlib.Decide.{ℕ-discrete}
 use native.Mathlib.Omega.{arith}
@@ -18,8 +18,9 @@ use Rattle.node.specs.declared.Process.{Process}
 use Rattle.node.specs.declared.Row.{Row}
 use Rattle.node.specs.declared.Signal.{Signal}
 use Rattle.node.specs.Lists.{firsts, rising, allFrom, allOf}
-use Rattle.node.specs.Mailboxes.{emptied}
+use Rattle.node.specs.Mailboxes.{emptied, sixteenSlots}
 use Rattle.node.specs.Nodes.{noProcess, noMailbox, noRow, pair}
+use Rattle.node.specs.Processes.{sixteenLinks}
 use Rattle.node.specs.Rows.{noSignal, signals, pushed, popped}
 use Rattle.node.proofs.Lists.{firsts-length, map-rising-at, map-rising-length}
 use Rattle.rules.specs.Answers.{Answer, refused, done}
@@ -31,8 +32,9 @@ use Rattle.rules.specs.Run.{runs}
 use Rattle.rules.specs.Steps.{Action, run, arrive, owner, at, withArrival, withSending, withBirth, commit, numbered, signalWaits, pairHasRoom, incoming, decide, step, state, playsOn, played, play}
 use Rattle.rules.specs.Values.{numbers, isNumber, fitsInt}
 use Rattle.rules.proofs.Accepted.{Act, step-goes}
-use Rattle.rules.proofs.All.{both, parts, allOf-any, allOf-map, made-all, all-made}
+use Rattle.rules.proofs.All.{both, parts, allOf-at, allOf-any, allOf-map, made-all, all-made}
 use Rattle.rules.proofs.Firsts.{firsts-joined, firsts-left, set-read, at-read}
+use Rattle.rules.proofs.Full.{Full, Fills, runs-full, arrives-full}
 use Rattle.rules.proofs.Keep.{SentOk, BornOk, Keeps, Good, emptied-sound, runs-good, arrives-good}
 use Rattle.rules.proofs.Records.{number-bounds}
 use Rattle.rules.proofs.Shape.{Sized, sized-of, of-sized, sized-kept}
@@ -263,6 +265,19 @@ decided-keeps n (arrive i j) e p m w d =
 pub act-keeps : (n : Node) (a : Action) (e : Effect) → Parts n → Act n a e → Keeps (behavioursOf n) (owner a) e
 act-keeps n a e p t = decided-keeps n a e p (t .numbers) (t .waits) (t .decided)
 
+-- and its arrays are as long as those of the owner
+module _ (n : Node) (z : Sized n) (i : ℕ) (h : So (isNumber i)) where
+  own-links : So (sixteenLinks (process n i))
+  own-links = let x = number-bounds i h in allOf-at sixteenLinks noProcess (n .processes) (z .links) (i - 1) (omega (arith, z .processes))
+
+  own-slots : So (sixteenSlots (mailbox n i))
+  own-slots = let x = number-bounds i h in allOf-at sixteenSlots noMailbox (n .mail) (z .slots) (i - 1) (omega (arith, z .mail))
+
+act-full : (n : Node) (a : Action) (e : Effect) → Sized n → Act n a e → Full e
+unfolding decide
+act-full n (run i) e z t = let h = owner-number (run i) (t .numbers) in subst Fills (t .decided) (runs-full (state n i) (own-links n z i h) (own-slots n z i h) _ i)
+act-full n (arrive i j) e z t = let h = owner-number (arrive i j) (t .numbers) in subst Fills (t .decided) (arrives-full (state n i) (own-links n z i h) (own-slots n z i h) i j _)
+
 pub commit-sound : (n : Node) (a : Action) (e : Effect) → Parts n → Act n a e → Parts (commit n a e)
 unfolding commit behavioursOf code
 commit-sound n a e p t =
@@ -273,7 +288,7 @@ commit-sound n a e p t =
       codes = p .codes;
       processes = birth-ok (behavioursOf n) _ _ (e .born) (owner-ok (behavioursOf n) (n .processes) (n .mail) (owner a) (e .process) (e .mail) (p .processes) m (k .sound)) (k .birth);
       rows = sending-ok n a (owner a) (e .sent) (arrival-ok (n .flight) a (p .rows) (t .numbers)) m (k .sent) (t .room);
-      sized = sized-kept n a e (p .sized);
+      sized = sized-kept n a e (act-full n a e (p .sized) t) (p .sized);
     }
 
 -- an accepted step leaves a sound node

@@ -3,6 +3,7 @@ pub mod Firsts
 pub mod Records
 pub mod Keep
 pub mod Accepted
+pub mod Full
 pub mod Shape
 pub mod Kept
 pub mod Trace

@@ -1,5 +1,5 @@
 -- The arrays of a sound node are as long as their types say, and a commit keeps them so. Assumes nothing.
-use mathlib.Core.Bool.{So, _&&_}
+use mathlib.Core.Bool.{Bool, So}
 use mathlib.Core.List.{List, [], _∷_}
 use mathlib.Core.Option.{Option, none, some}
 use mathlib.Core.Path.{_≡_, refl, _∙_}
@@ -7,20 +7,30 @@ use Prim.Native.Nat.{ℕ, zero, suc, _-_}
 use borrow.Author.Tests.{eqb-true, eq-eqb}
 use lib.Dec.{eqb}
 use lib.ListN.{length, getD, set, length-set}
+use Rattle.node.specs.declared.Mailbox.{Mailbox}
 use Rattle.node.specs.declared.Node.{Node}
+use Rattle.node.specs.declared.Process.{Process}
 use Rattle.node.specs.declared.Row.{Row}
 use Rattle.node.specs.Lists.{allOf}
-use Rattle.node.specs.Nodes.{noProcess, noRow, pair}
+use Rattle.node.specs.Mailboxes.{emptied, sixteenSlots}
+use Rattle.node.specs.Nodes.{noMailbox, noProcess, noRow, pair}
+use Rattle.node.specs.Processes.{sixteenLinks}
 use Rattle.node.specs.Rows.{noSignal, fourCells, pushed, popped}
 use Rattle.node.proofs.Lists.{leave-length}
 use Rattle.rules.specs.Effects.{Effect, Sending, Birth}
 use Rattle.rules.specs.Nodes.{shaped}
 use Rattle.rules.specs.Steps.{Action, run, arrive, owner, at, withArrival, withSending, withBirth, commit}
 use Rattle.rules.proofs.All.{both, parts}
+use Rattle.rules.proofs.Full.{Full, FullBirth}
 
 -- the test `shaped`, part by part
 pub record Sized (n : Node) : Type 0 where
+  pub lens : length (n .lens) ≡ 8
+  pub ops : length (n .ops) ≡ 256
   pub processes : length (n .processes) ≡ 16
+  pub links : So (allOf sixteenLinks (n .processes))
+  pub mail : length (n .mail) ≡ 16
+  pub slots : So (allOf sixteenSlots (n .mail))
   pub flight : length (n .flight) ≡ 256
   pub cells : So (allOf fourCells (n .flight))
 
@@ -28,13 +38,36 @@ module _ (n : Node) where
   pub sized-of : So (shaped n) → Sized n
   unfolding shaped
   sized-of h =
-      let a = parts (eqb (length (n .processes)) 16 && eqb (length (n .flight)) 256) (allOf fourCells (n .flight)) h in
-      let b = parts (eqb (length (n .processes)) 16) (eqb (length (n .flight)) 256) (a .0) in
-      record { processes = eqb-true _ _ (b .0); flight = eqb-true _ _ (b .1); cells = a .1 }
+      let a = parts _ (allOf fourCells (n .flight)) h in
+      let b = parts _ (eqb (length (n .flight)) 256) (a .0) in
+      let c = parts _ (allOf sixteenSlots (n .mail)) (b .0) in
+      let d = parts _ (eqb (length (n .mail)) 16) (c .0) in
+      let e = parts _ (allOf sixteenLinks (n .processes)) (d .0) in
+      let f = parts _ (eqb (length (n .processes)) 16) (e .0) in
+      let g = parts (eqb (length (n .lens)) 8) (eqb (length (n .ops)) 256) (f .0) in
+      record {
+        lens = eqb-true _ _ (g .0);
+        ops = eqb-true _ _ (g .1);
+        processes = eqb-true _ _ (f .1);
+        links = e .1;
+        mail = eqb-true _ _ (d .1);
+        slots = c .1;
+        flight = eqb-true _ _ (b .1);
+        cells = a .1;
+      }
 
   pub of-sized : Sized n → So (shaped n)
   unfolding shaped
-  of-sized z = both (both (eq-eqb _ _ (z .processes)) (eq-eqb _ _ (z .flight))) (z .cells)
+  of-sized z =
+      both (both (both (both (both (both (both
+      (eq-eqb _ _ (z .lens))
+      (eq-eqb _ _ (z .ops)))
+      (eq-eqb _ _ (z .processes)))
+      (z .links))
+      (eq-eqb _ _ (z .mail)))
+      (z .slots))
+      (eq-eqb _ _ (z .flight)))
+      (z .cells)
 
 -- ---- a change of one element
 
@@ -47,6 +80,17 @@ module _ {A : Type 0} (d : A) where
   birth-length f l none = refl
   birth-length f l (some b) = at-length (f b) l (b .number - 1)
 
+  -- a test that each element passes, and still passes where it is changed
+  at-all : (test : A → Bool) (f : A → A) → ((x : A) → So (test x) → So (test (f x))) → (k : ℕ) (xs : List A) → So (allOf test xs) → So (allOf test (at d f k xs))
+  unfolding at
+  at-all test f keeps k [] h = refl
+  at-all test f keeps zero (x ∷ xs) h = let w = parts (test x) (allOf test xs) h in both (keeps x (w .0)) (w .1)
+  at-all test f keeps (suc k) (x ∷ xs) h = let w = parts (test x) (allOf test xs) h in both (w .0) (at-all test f keeps k xs (w .1))
+
+  pub set-all : (test : A → Bool) (k : ℕ) (xs : List A) (y : A) → So (test y) → So (allOf test xs) → So (allOf test (set xs k y))
+  unfolding at
+  set-all test k xs y g h = at-all test (λ x. y) (λ x q. g) k xs h
+
 pub arrival-length : (X : List Row) (a : Action) → length (withArrival X a) ≡ length X
 arrival-length X (run i) = refl
 arrival-length X (arrive i j) = at-length noRow popped X (pair j i)
@@ -55,30 +99,34 @@ sending-length : (X : List Row) (i : ℕ) (o : Option Sending) → length (withS
 sending-length X i none = refl
 sending-length X i (some x) = at-length noRow (λ r. pushed r (x .signal)) X (pair i (x .to))
 
-module _ (f : Row → Row) (keeps : (r : Row) → length (f r .cells) ≡ length (r .cells)) where
-  at-cells : (k : ℕ) (X : List Row) → So (allOf fourCells X) → So (allOf fourCells (at noRow f k X))
-  unfolding at
-  at-cells k [] h = refl
-  at-cells zero (x ∷ X) h =
-      let w = parts (fourCells x) (allOf fourCells X) h in
-      let four : So (fourCells (f x)) = rw (keeps x) (w .0) in
-      both four (w .1)
-  at-cells (suc k) (x ∷ X) h = let w = parts (fourCells x) (allOf fourCells X) h in both (w .0) (at-cells k X (w .1))
-
 arrival-cells : (X : List Row) (a : Action) → So (allOf fourCells X) → So (allOf fourCells (withArrival X a))
 unfolding popped
 arrival-cells X (run i) h = h
-arrival-cells X (arrive i j) h = at-cells popped (λ r. leave-length noSignal 0 (r .cells)) (pair j i) X h
+arrival-cells X (arrive i j) h = at-all noRow fourCells popped (λ r q. rw (leave-length noSignal 0 (r .cells)) q) (pair j i) X h
 
 sending-cells : (X : List Row) (i : ℕ) (o : Option Sending) → So (allOf fourCells X) → So (allOf fourCells (withSending X i o))
 unfolding pushed
 sending-cells X i none h = h
-sending-cells X i (some x) h = at-cells (λ r. pushed r (x .signal)) (λ r. length-set (r .cells) (r .count) _) (pair i (x .to)) X h
+sending-cells X i (some x) h = at-all noRow fourCells (λ r. pushed r (x .signal)) (λ r q. rw (length-set (r .cells) (r .count) (record { signal = x .signal })) q) (pair i (x .to)) X h
 
-pub sized-kept : (n : Node) (a : Action) (e : Effect) → Sized n → Sized (commit n a e)
+birth-links : (X : List Process) (b : Option Birth) → FullBirth b → So (allOf sixteenLinks X) → So (allOf sixteenLinks (withBirth noProcess (λ b p. b .process) X b))
+birth-links X none g h = h
+birth-links X (some b) g h = at-all noProcess sixteenLinks (λ p. b .process) (λ p q. g) (b .number - 1) X h
+
+birth-slots : (X : List Mailbox) (b : Option Birth) → So (allOf sixteenSlots X) → So (allOf sixteenSlots (withBirth noMailbox (λ b m. emptied m) X b))
+unfolding emptied
+birth-slots X none h = h
+birth-slots X (some b) h = at-all noMailbox sixteenSlots emptied (λ m q. q) (b .number - 1) X h
+
+pub sized-kept : (n : Node) (a : Action) (e : Effect) → Full e → Sized n → Sized (commit n a e)
 unfolding commit
-sized-kept n a e z = record {
+sized-kept n a e f z = record {
+  lens = z .lens;
+  ops = z .ops;
   processes = birth-length noProcess (λ b p. b .process) (set (n .processes) (owner a - 1) (e .process)) (e .born) ∙ length-set (n .processes) (owner a - 1) (e .process) ∙ z .processes;
+  links = birth-links (set (n .processes) (owner a - 1) (e .process)) (e .born) (f .birth) (set-all noProcess sixteenLinks (owner a - 1) (n .processes) (e .process) (f .links) (z .links));
+  mail = birth-length noMailbox (λ b m. emptied m) (set (n .mail) (owner a - 1) (e .mail)) (e .born) ∙ length-set (n .mail) (owner a - 1) (e .mail) ∙ z .mail;
+  slots = birth-slots (set (n .mail) (owner a - 1) (e .mail)) (e .born) (set-all noMailbox sixteenSlots (owner a - 1) (n .mail) (e .mail) (f .slots) (z .slots));
   flight = sending-length (withArrival (n .flight) a) (owner a) (e .sent) ∙ arrival-length (n .flight) a ∙ z .flight;
   cells = sending-cells (withArrival (n .flight) a) (owner a) (e .sent) (arrival-cells (n .flight) a (z .cells));
 }

@@ -25,9 +25,9 @@ use Rattle.node.specs.declared.Stage.{Stage}
 use Rattle.node.specs.declared.Stage.the-variants.{Unborn, Live, Closing, Gone}
 use Rattle.node.specs.declared.Value.{Value}
 use Rattle.node.specs.Lists.{firsts, rising, allFrom, allOf}
-use Rattle.node.specs.Mailboxes.{messages}
+use Rattle.node.specs.Mailboxes.{messages, sixteenSlots}
 use Rattle.node.specs.Nodes.{noOp, noProcess, noMailbox, noRow, pair}
-use Rattle.node.specs.Processes.{linksTo}
+use Rattle.node.specs.Processes.{linksTo, sixteenLinks}
 use Rattle.node.specs.Rows.{fourCells, signals}
 use Rattle.rules.specs.Behaviours.{Instruction, instruction, onClause, codeSound}
 use Rattle.rules.specs.Values.{numbers, isNumber, valueSound, messageSound}
@@ -139,7 +139,12 @@ viewSound v =
 -- A record of this logic holds lists of any length, and an array of the code has as many elements as its type says: so no code tests
 -- this (crate `soundness` proves it of every node that it is given), and no node of the code is not sound for it.
 unfoldable pub shaped : Node → Bool
-shaped n = eqb (length (n .processes)) 16 && eqb (length (n .flight)) 256 && allOf fourCells (n .flight)
+shaped n =
+    eqb (length (n .lens)) 8
+    && eqb (length (n .ops)) 256
+    && eqb (length (n .processes)) 16 && allOf sixteenLinks (n .processes)
+    && eqb (length (n .mail)) 16 && allOf sixteenSlots (n .mail)
+    && eqb (length (n .flight)) 256 && allOf fourCells (n .flight)
 
 unfoldable pub sound : Node → Bool
 sound n = viewSound (view n) && shaped n
