@@ -14,3 +14,4 @@ pub mod Told
 pub mod Suggest
 pub mod Sample
 pub mod Witness
+pub mod Consequences

@@ -137,8 +137,18 @@ played-stops n (a ∷ l) = go (step n a) refl (λ m. played-stops m l)
     go (refused k) e f = e
     go (done m) e f = rw add-one (f m)
 
+-- and accepts no more steps than there are
+played-count : (n : Node) (l : List Action) → played n l .accepted ≤ length l
+unfolding played
+played-count n [] = omega arith
+played-count n (a ∷ l) = go (step n a) (λ m. played-count m l)
+  where
+    go : (o : Answer Node) → ((m : Node) → played m l .accepted ≤ length l) → playsOn n o (λ m. played m l) .accepted ≤ length (a ∷ l)
+    go (refused k) f = omega arith
+    go (done m) f = let h = f m in omega arith
+
 pub play-is-steps : PlayIsSteps
-play-is-steps n l s h = rw (play-played n l s h) (played-runs n l, played-stops n l)
+play-is-steps n l s h = rw (play-played n l s h) (played-count n l, played-runs n l, played-stops n l)
 
 -- ---- refusals exclude each other
 

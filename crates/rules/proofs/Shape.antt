@@ -13,7 +13,7 @@ use Rattle.node.specs.declared.Process.{Process}
 use Rattle.node.specs.declared.Row.{Row}
 use Rattle.node.specs.Lists.{allOf}
 use Rattle.node.specs.Mailboxes.{emptied, sixteenSlots}
-use Rattle.node.specs.Nodes.{noMailbox, noProcess, noRow, pair}
+use Rattle.node.specs.Nodes.{noMailbox, noProcess, noRow}
 use Rattle.node.specs.Processes.{sixteenLinks}
 use Rattle.node.specs.Rows.{noSignal, fourCells, pushed, popped}
 use Rattle.node.proofs.Lists.{leave-length}
@@ -93,21 +93,21 @@ module _ {A : Type 0} (d : A) where
 
 pub arrival-length : (X : List Row) (a : Action) → length (withArrival X a) ≡ length X
 arrival-length X (run i) = refl
-arrival-length X (arrive i j) = at-length noRow popped X (pair j i)
+arrival-length X (arrive i j) = at-length noRow popped X _
 
 sending-length : (X : List Row) (i : ℕ) (o : Option Sending) → length (withSending X i o) ≡ length X
 sending-length X i none = refl
-sending-length X i (some x) = at-length noRow (λ r. pushed r (x .signal)) X (pair i (x .to))
+sending-length X i (some x) = at-length noRow _ X _
 
 arrival-cells : (X : List Row) (a : Action) → So (allOf fourCells X) → So (allOf fourCells (withArrival X a))
 unfolding popped
 arrival-cells X (run i) h = h
-arrival-cells X (arrive i j) h = at-all noRow fourCells popped (λ r q. rw (leave-length noSignal 0 (r .cells)) q) (pair j i) X h
+arrival-cells X (arrive i j) h = at-all noRow fourCells popped (λ r q. rw (leave-length noSignal 0 (r .cells)) q) _ X h
 
 sending-cells : (X : List Row) (i : ℕ) (o : Option Sending) → So (allOf fourCells X) → So (allOf fourCells (withSending X i o))
 unfolding pushed
 sending-cells X i none h = h
-sending-cells X i (some x) h = at-all noRow fourCells (λ r. pushed r (x .signal)) (λ r q. rw (length-set (r .cells) (r .count) (record { signal = x .signal })) q) (pair i (x .to)) X h
+sending-cells X i (some x) h = at-all noRow fourCells (λ r. pushed r (x .signal)) (λ r q. rw (length-set (r .cells) (r .count) (record { signal = x .signal })) q) _ X h
 
 birth-links : (X : List Process) (b : Option Birth) → FullBirth b → So (allOf sixteenLinks X) → So (allOf sixteenLinks (withBirth noProcess (λ b p. b .process) X b))
 birth-links X none g h = h

@@ -229,7 +229,7 @@ module _ (n : Node) (l : List Action) where
     where
       go : (b : Bool) → ltb 4096 (length l) ≡ b → ⊥
       go true h = let z = long h s in omega (arith, z, e)
-      go false h = stopped-told (play n l .node) (drop (play n l .accepted) l) (play n l .refusal) (sound-kept .1 n l s) (play-is-steps n l s (ltb-false 4096 (length l) h) .1) e
+      go false h = stopped-told (play n l .node) (drop (play n l .accepted) l) (play n l .refusal) (sound-kept .1 n l s) (play-is-steps n l s (ltb-false 4096 (length l) h) .2) e
 
   pub told-31 : play n l .refusal ≡ 31 → sound n ≡ false
   told-31 e = go (sound n) refl

@@ -58,15 +58,15 @@ mixed-end : after started mixed ≡ finish
 unfolding early late mixed finish stands after accepted callNode callSteps owned started sample opOf play played step rule ready commit incoming decide at numbered ownerBorn signalWaits pairHasRoom numberFree sound shaped viewSound view behavioursOf code linkSet standing runningSound rowSound receives fits runs runsLive runsOp closes arrives exits operand instruction operandInRange inRange hasClauses targetsFree wellPlaced codeSound isNumber fitsInt messages joined without emptied signals oldest pushed popped register withRegister moved advanced trapped linksTo linked unlinked ended gone kindsOf
 mixed-end = refl
 
-early-steps : accepted started early ≡ run 1 ∷ run 1 ∷ run 1 ∷ run 1 ∷ arrive 2 1 ∷ run 2 ∷ run 2 ∷ []
+pub early-steps : accepted started early ≡ run 1 ∷ run 1 ∷ run 1 ∷ run 1 ∷ arrive 2 1 ∷ run 2 ∷ run 2 ∷ []
 unfolding early late mixed finish stands after accepted callNode callSteps owned started sample opOf play played step rule ready commit incoming decide at numbered ownerBorn signalWaits pairHasRoom numberFree sound shaped viewSound view behavioursOf code linkSet standing runningSound rowSound receives fits runs runsLive runsOp closes arrives exits operand instruction operandInRange inRange hasClauses targetsFree wellPlaced codeSound isNumber fitsInt messages joined without emptied signals oldest pushed popped register withRegister moved advanced trapped linksTo linked unlinked ended gone kindsOf
 early-steps = refl
 
-late-steps : accepted started late ≡ run 1 ∷ run 1 ∷ run 1 ∷ arrive 2 1 ∷ run 2 ∷ run 2 ∷ run 1 ∷ []
+pub late-steps : accepted started late ≡ run 1 ∷ run 1 ∷ run 1 ∷ arrive 2 1 ∷ run 2 ∷ run 2 ∷ run 1 ∷ []
 unfolding early late mixed finish stands after accepted callNode callSteps owned started sample opOf play played step rule ready commit incoming decide at numbered ownerBorn signalWaits pairHasRoom numberFree sound shaped viewSound view behavioursOf code linkSet standing runningSound rowSound receives fits runs runsLive runsOp closes arrives exits operand instruction operandInRange inRange hasClauses targetsFree wellPlaced codeSound isNumber fitsInt messages joined without emptied signals oldest pushed popped register withRegister moved advanced trapped linksTo linked unlinked ended gone kindsOf
 late-steps = refl
 
-mixed-steps : accepted started mixed ≡ run 1 ∷ run 1 ∷ run 1 ∷ run 1 ∷ arrive 2 1 ∷ run 2 ∷ run 2 ∷ []
+pub mixed-steps : accepted started mixed ≡ run 1 ∷ run 1 ∷ run 1 ∷ run 1 ∷ arrive 2 1 ∷ run 2 ∷ run 2 ∷ []
 unfolding early late mixed finish stands after accepted callNode callSteps owned started sample opOf play played step rule ready commit incoming decide at numbered ownerBorn signalWaits pairHasRoom numberFree sound shaped viewSound view behavioursOf code linkSet standing runningSound rowSound receives fits runs runsLive runsOp closes arrives exits operand instruction operandInRange inRange hasClauses targetsFree wellPlaced codeSound isNumber fitsInt messages joined without emptied signals oldest pushed popped register withRegister moved advanced trapped linksTo linked unlinked ended gone kindsOf
 mixed-steps = refl
 

@@ -1,4 +1,5 @@
--- The guarantees on these rules. Each is proved in proofs/Order.antt under the name beside it.
+-- The guarantees on these rules. Each is proved in proofs/Order.antt under the name beside it; proofs/Consequences.antt draws from each what
+-- a weaker statement would not give.
 --   Order        order         demand 3: lists in which each process has the same accepted steps in the same order end in equal nodes
 --   SoundKept    sound-kept    an accepted step and a play of a sound node leave a sound node
 --   PlayIsSteps  play-is-steps a play of a sound node is its steps one after another, up to the first refusal
@@ -42,7 +43,7 @@ Stopped n (a ∷ l) k = step n a ≡ refused k
 abbrev pub PlayIsSteps : Type 0
 PlayIsSteps =
     (n : Node) (l : List Action) → Sound n → length l ≤ 4096 →
-    Steps n (take (play n l .accepted) l) (play n l .node) × Stopped (play n l .node) (drop (play n l .accepted) l) (play n l .refusal)
+    (play n l .accepted ≤ length l) × Steps n (take (play n l .accepted) l) (play n l .node) × Stopped (play n l .node) (drop (play n l .accepted) l) (play n l .refusal)
 
 -- why a step that passes 20, 21 and 23 is refused: the decision says so (22, 24, 25), or 26, or 27
 pub data Cause (n : Node) (a : Action) : ℕ → Type 0 where

@@ -1,0 +1,147 @@
+-- What each guarantee comes to in plain cases: laws that follow from the words of its statement alone, taken as a premise, and that a weaker
+-- statement would not give. Assumes nothing.
+--   order-ends         Order: single steps in two orders, and a play with refused steps among them, end alike
+--   calls-stay-sound   SoundKept: every list of calls leaves a sound node
+--   play-none play-one PlayIsSteps: no step is a play of none, and one step is a play of one
+--   refused-cause      every refusal of a numbered step with a born owner and a waiting signal has a cause
+--   full-not-taken     Exclusive: 26 and 27 never meet, nor does either meet a refusal of the decision
+--   never-back         Forward: none of the six ways back is taken
+use mathlib.Core.Bool.{Bool, true, false, So, cond}
+use mathlib.Core.List.{List, [], _∷_}
+use mathlib.Core.Path.{_≡_, refl, sym, _∙_, ap, subst}
+use Prim.Native.Nat.{ℕ, zero, suc, _≤_, _<_}
+use native.Mathlib.Omega.{arith}
+use borrow.Author.Tests.{eqb-true}
+use lib.Dec.{eqb}
+use lib.ListN.{take, drop}
+use Rattle.node.specs.declared.Node.{Node}
+use Rattle.node.specs.declared.Stage.{Stage}
+use Rattle.node.specs.declared.Stage.the-variants.{Unborn, Live, Closing, Gone}
+use Rattle.rules.specs.Answers.{Answer, refused, done, need, goOn, pairFull, notUnborn}
+use Rattle.rules.specs.Calls.{Call, single, schedule, nodeBehind, callNode, after, accepted, owned}
+use Rattle.rules.specs.Effects.{Effect}
+use Rattle.rules.specs.Guarantees.{Order, SoundKept, Steps, Stopped, PlayIsSteps, Cause, undecided, full, taken, Exclusive, rank, Forward}
+use Rattle.rules.specs.Nodes.{Sound, process}
+use Rattle.rules.specs.Steps.{Action, run, arrive, owner, numbered, ownerBorn, signalWaits, pairHasRoom, numberFree, commit, decide, ready, rule, step, play}
+use Rattle.rules.proofs.Accepted.{step-rule}
+use Rattle.rules.proofs.Sample.{started}
+use Rattle.rules.proofs.Witness.{started-sound, early, late, mixed, early-steps, late-steps, mixed-steps}
+
+-- ---- Order
+
+-- the steps that process 1 has in a list, and those of process 2, by whether they are asked for
+abbrev one : Bool → List Action → List Action
+one a l = cond a (run 1 ∷ l) l
+
+abbrev two : Bool → List Action → List Action
+two b l =
+    let last = cond b (run 2 ∷ l) l in
+    let both = cond b (run 2 ∷ last) last in
+    cond b (arrive 2 1 ∷ both) both
+
+-- the steps of early and of late, by owner
+by-owner : (i : ℕ) → owned owner i (run 1 ∷ run 1 ∷ run 1 ∷ run 1 ∷ arrive 2 1 ∷ run 2 ∷ run 2 ∷ []) ≡ owned owner i (run 1 ∷ run 1 ∷ run 1 ∷ arrive 2 1 ∷ run 2 ∷ run 2 ∷ run 1 ∷ [])
+unfolding owned
+by-owner i = go (eqb 1 i) refl (eqb 2 i) refl
+  where
+    go : (a : Bool) → eqb 1 i ≡ a → (b : Bool) → eqb 2 i ≡ b → one a (one a (one a (one a (two b [])))) ≡ one a (one a (one a (two b (one a []))))
+    go true p true q =
+        let x = eqb-true 1 i p in
+        let y = eqb-true 2 i q in
+        absurd (omega arith)
+    go true p false q = refl
+    go false p true q = refl
+    go false p false q = refl
+
+pub order-ends : Order → (after started early ≡ after started late) × (after started early ≡ after started mixed)
+order-ends o = (o started started-sound early late (λ i a b. rw (early-steps, late-steps) (by-owner i)), o started started-sound early mixed (λ i a b. rw (early-steps, mixed-steps)))
+
+-- ---- SoundKept
+
+pub calls-stay-sound : SoundKept → (n : Node) → Sound n → (cs : List Call) → Sound (after n cs)
+unfolding after callNode
+calls-stay-sound k n s [] = s
+calls-stay-sound k n s (schedule l ∷ cs) = calls-stay-sound k (play n l .node) (k .1 n l s) cs
+calls-stay-sound k n s (single a ∷ cs) = calls-stay-sound k (nodeBehind n (step n a)) (behind (step n a) refl) cs
+  where
+    behind : (x : Answer Node) → step n a ≡ x → Sound (nodeBehind n x)
+    behind (refused j) e = s
+    behind (done m) e = k .0 n m a e
+
+-- ---- PlayIsSteps
+
+pub play-none : PlayIsSteps → (n : Node) → Sound n → (play n [] .node ≡ n) × (play n [] .accepted ≡ 0) × (play n [] .refusal ≡ 0)
+play-none p n s = go (play n [] .accepted) (w .0) (w .1) (w .2)
+  where
+    w : (play n [] .accepted ≤ 0) × Steps n (take (play n [] .accepted) []) (play n [] .node) × Stopped (play n [] .node) (drop (play n [] .accepted) []) (play n [] .refusal)
+    w = p n [] s (omega arith)
+
+    go : (k : ℕ) → k ≤ 0 → Steps n (take k []) (play n [] .node) → Stopped (play n [] .node) (drop k []) (play n [] .refusal) → (play n [] .node ≡ n) × (k ≡ 0) × (play n [] .refusal ≡ 0)
+    go zero h x y = (sym x, refl, y)
+    go (suc k) h x y = absurd (omega arith)
+
+-- one step: accepted, with the node that it gives; or refused, with its number and the node as it was
+abbrev One : Node → Action → Answer Node → ℕ → ℕ → Node → Type 0
+One n a (refused j) k r m = (k ≡ 0) × (r ≡ j) × (m ≡ n)
+One n a (done l) k r m = (k ≡ 1) × (r ≡ 0) × (m ≡ l)
+
+pub play-one : PlayIsSteps → (n : Node) (a : Action) → Sound n → One n a (step n a) (play n (a ∷ []) .accepted) (play n (a ∷ []) .refusal) (play n (a ∷ []) .node)
+play-one p n a s = go (step n a) refl (play n (a ∷ []) .accepted) (play n (a ∷ []) .refusal) (play n (a ∷ []) .node) (w .0) (w .1) (w .2)
+  where
+    w : (play n (a ∷ []) .accepted ≤ 1) × Steps n (take (play n (a ∷ []) .accepted) (a ∷ [])) (play n (a ∷ []) .node) × Stopped (play n (a ∷ []) .node) (drop (play n (a ∷ []) .accepted) (a ∷ [])) (play n (a ∷ []) .refusal)
+    w = p n (a ∷ []) s (omega arith)
+
+    go : (x : Answer Node) → step n a ≡ x → (k r : ℕ) (m : Node) → k ≤ 1 → Steps n (take k (a ∷ [])) m → Stopped m (drop k (a ∷ [])) r → One n a x k r m
+    go (refused j) e zero r m h x y = let q : refused r ≡ refused j = sym (ap (λ (l : Node). step l a) x ∙ y) ∙ e in (refl, cc q, sym x)
+    go (refused j) e (suc zero) r m h x y = absurd (let z : _≡_ {A = ℕ} 0 1 = cc (x .1, e) in omega arith)
+    go (refused j) e (suc (suc k)) r m h x y = absurd (omega arith)
+    go (done l) e zero r m h x y = absurd (let q : refused r ≡ done l = sym (ap (λ (l : Node). step l a) x ∙ y) ∙ e in let z : _≡_ {A = ℕ} 0 1 = cc q in omega arith)
+    go (done l) e (suc zero) r m h x y = let q : x .0 ≡ l = cc (x .1, e) in (refl, y, sym (x .2) ∙ q)
+    go (done l) e (suc (suc k)) r m h x y = absurd (omega arith)
+
+-- ---- Exclusive
+
+pub refused-cause : (n : Node) (a : Action) (k : ℕ) → Sound n → So (numbered a) → So (ownerBorn n a) → So (signalWaits n a) → step n a ≡ refused k → Cause n a k
+unfolding rule ready
+refused-cause n a k s x y z h = decided (decide n a) refl (rw (x, y, z) at (sym (step-rule n a s) ∙ h))
+  where
+    freed : (e : Effect) → decide n a ≡ done e → (b : Bool) → numberFree n (e .born) ≡ b → need b notUnborn (done (commit n a e)) ≡ refused k → Cause n a k
+    freed e d true f g = absurd (let z : _≡_ {A = ℕ} 0 1 = cc g in omega arith)
+    freed e d false f g = let q : notUnborn ≡ k = cc g in subst (Cause n a) q (taken d f)
+
+    roomy : (e : Effect) → decide n a ≡ done e → (b : Bool) → pairHasRoom n (owner a) (e .sent) ≡ b → goOn (need b pairFull (done e)) (λ e. need (numberFree n (e .born)) notUnborn (done (commit n a e))) ≡ refused k → Cause n a k
+    roomy e d true f g = freed e d (numberFree n (e .born)) refl g
+    roomy e d false f g = let q : pairFull ≡ k = cc g in subst (Cause n a) q (full d f)
+
+    decided : (x : Answer Effect) → decide n a ≡ x → goOn (goOn x (λ e. need (pairHasRoom n (owner a) (e .sent)) pairFull (done e))) (λ e. need (numberFree n (e .born)) notUnborn (done (commit n a e))) ≡ refused k → Cause n a k
+    decided (refused j) d g = let q : j ≡ k = cc g in undecided (rw q at d)
+    decided (done e) d g = roomy e d (pairHasRoom n (owner a) (e .sent)) refl g
+
+module _ (x : Exclusive) (n : Node) (a : Action) (s : Sound n) (numbers : So (numbered a)) (waits : So (signalWaits n a)) where
+  pub full-not-taken : (e : Effect) → decide n a ≡ done e → pairHasRoom n (owner a) (e .sent) ≡ false → numberFree n (e .born) ≡ false → ⊥
+  full-not-taken e d r f = let q : pairFull ≡ notUnborn = x n a s numbers waits pairFull notUnborn (full d r) (taken d f) in omega (arith, q)
+
+-- ---- Forward
+
+-- from the first stage back to the second
+pub data Back : Stage → Stage → Type 0 where
+  live-unborn : Back Live Unborn
+  closing-unborn : Back Closing Unborn
+  gone-unborn : Back Gone Unborn
+  closing-live : Back Closing Live
+  gone-live : Back Gone Live
+  gone-closing : Back Gone Closing
+
+back-rank : (s t : Stage) → Back s t → rank t < rank s
+back-rank s t live-unborn = omega arith
+back-rank s t closing-unborn = omega arith
+back-rank s t gone-unborn = omega arith
+back-rank s t closing-live = omega arith
+back-rank s t gone-live = omega arith
+back-rank s t gone-closing = omega arith
+
+pub never-back : Forward → (n m : Node) (a : Action) → step n a ≡ done m → (i : ℕ) → Back (process n i .stage) (process m i .stage) → ⊥
+never-back f n m a h i b =
+    let x = f n m a h i in
+    let y = back-rank (process n i .stage) (process m i .stage) b in
+    omega arith
