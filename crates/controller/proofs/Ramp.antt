@@ -1,5 +1,6 @@
--- The ramp checks of document 01, computed on the definitions: P1 for every sound node, P2 from the bytes of the sample's two texts to the
--- bytes that are printed, and one table for the others. The two checks without a number stand in the table too. Assumes nothing.
+-- The ramp checks of document 01, computed on the definitions: one table, `table`, and one theorem, `ramp`, that every row of it holds.
+-- P1 is a row for every sound node, P2 a row from the bytes of the sample's two texts to the bytes that are printed; the other rows are plays,
+-- each against a node that is written out. Assumes nothing.
 use mathlib.Core.Bool.{Bool, true, false}
 use mathlib.Core.List.{List, [], _∷_, _++_, map}
 use mathlib.Core.Path.{_≡_, refl, _∙_, ap}
@@ -12,7 +13,7 @@ use Rattle.node.specs.declared.Op.{Op}
 use Rattle.node.specs.declared.Process.{Process}
 use Rattle.node.specs.declared.Signal.{Signal}
 use Rattle.node.specs.declared.Signal.the-variants.{Msg, Exit, Link}
-use Rattle.node.specs.declared.Stage.the-variants.{Live}
+use Rattle.node.specs.declared.Stage.the-variants.{Live, Closing, Gone}
 use Rattle.node.specs.declared.Value.{Value}
 use Rattle.node.specs.declared.Value.the-variants.{Atom}
 use Rattle.node.specs.Lists.{firsts}
@@ -71,17 +72,28 @@ world p ms j i xs = record {
 rower : ℕ → Value → Value → Bool → List Bool → Process
 rower b v w f links = record { stage = Live; behaviour = record { 0 = b }; place = 0; r0 = v; r1 = w; r2 = intZero; r3 = intZero; trap = f; links = links; reason = intZero }
 
--- ---- a check: what a play of these steps on this node answers
+-- process 1 in behaviour 1, ended with a reason: its registers r0 and r1, its trap flag and its links
+closed : Value → Value → Bool → List Bool → Value → Process
+closed v w f links reason = record { stage = Closing; behaviour = record { 0 = 1 }; place = 0; r0 = v; r1 = w; r2 = intZero; r3 = intZero; trap = f; links = links; reason = reason }
 
-pub record Check : Type 0 where
-  pub before : Node
-  pub steps : List Action
-  pub accepted : ℕ
-  pub refusal : ℕ
-  pub after : Node
+-- process 1, gone
+left : Process
+left = record { stage = Gone; behaviour = record { 0 = 1 }; place = 0; r0 = intZero; r1 = intZero; r2 = intZero; r3 = intZero; trap = false; links = replicate 16 false; reason = normal }
+
+-- ---- a row of the table
+
+pub data Check : Type 0 where
+  -- no steps, on any sound node: the same node, 0 accepted
+  idle : Check
+  -- a plan text and a steps text, and what is printed
+  printing : (plan steps output : List ℕ) → Check
+  -- a node and steps, and what a play of them answers: accepted, refusal, node
+  playing : Node → List Action → ℕ → ℕ → Node → Check
 
 pub Holds : Check → Type 0
-Holds c = play (c .before) (c .steps) ≡ record { accepted = c .accepted; refusal = c .refusal; node = c .after }
+Holds idle = (n : Node) → Sound n → play n [] ≡ record { accepted = 0; refusal = 0; node = n }
+Holds (printing plan steps output) = programText plan steps ≡ output
+Holds (playing n l k r m) = play n l ≡ record { accepted = k; refusal = r; node = m }
 
 pub All : List Check → Type 0
 All [] = Unit {0}
@@ -93,21 +105,27 @@ unlinkedLinks = replicate 16 false
 linkTwo : List Bool
 linkTwo = false ∷ true ∷ replicate 14 false
 
+linkThree : List Bool
+linkThree = false ∷ false ∷ true ∷ replicate 13 false
+
+linkTwoThree : List Bool
+linkTwoThree = false ∷ true ∷ true ∷ replicate 13 false
+
 -- process 1 of behaviour 1 with i0 in its registers: its trap flag and links
 plain : Bool → List Bool → Process
 plain f links = rower 1 intZero intZero f links
 
 -- an arrival at process 1 of one signal from j, which process 1 ends as p, with the messages ms
 arrival : Process → ℕ → Signal → Process → List Message → Check
-arrival p j x q ms = record { before = world p [] j 1 (x ∷ []); steps = arrive 1 j ∷ []; accepted = 1; refusal = 0; after = world q ms j 1 [] }
+arrival p j x q ms = playing (world p [] j 1 (x ∷ [])) (arrive 1 j ∷ []) 1 0 (world q ms j 1 [])
 
 -- one run of process 1, with nothing in its mailbox
 running : Process → Process → Check
-running p q = record { before = world p [] 1 1 []; steps = run 1 ∷ []; accepted = 1; refusal = 0; after = world q [] 1 1 [] }
+running p q = playing (world p [] 1 1 []) (run 1 ∷ []) 1 0 (world q [] 1 1 [])
 
 -- a step that is refused with k
 refusing : Node → Action → ℕ → Check
-refusing n a k = record { before = n; steps = a ∷ []; accepted = 0; refusal = k; after = n }
+refusing n a k = playing n (a ∷ []) 0 k n
 
 fives : ℕ → List Message
 fives k = replicate k (Plain (int 5))
@@ -118,53 +136,6 @@ sender place k = world (withPlace (rower 2 (pid 2) (int 7) false unlinkedLinks) 
 
 spawner : Process
 spawner = rower 4 intZero intZero false unlinkedLinks
-
-abbrev closing : Process
-closing = ended (plain false unlinkedLinks) normal
-
-pub table : List Check
-table =
-    -- P3 exit(a0,0), trap 0: from another dropped; from itself ends with a0
-    arrival (plain false unlinkedLinks) 2 (Exit normal false) (plain false unlinkedLinks) []
-    ∷ arrival (plain false unlinkedLinks) 1 (Exit normal false) (ended (plain false unlinkedLinks) normal) []
-    -- P4 trap 1: exit(a1,0) ends with a2; exit(a1,1) from a link gives a note
-    ∷ arrival (plain true linkTwo) 2 (Exit kill false) (ended (plain true linkTwo) killed) []
-    ∷ arrival (plain true linkTwo) 2 (Exit kill true) (plain true unlinkedLinks) (Note (record { 0 = 2 }) kill ∷ [])
-    -- P5 trap 0: exit(a1,1) from a link ends with a1
-    ∷ arrival (plain false linkTwo) 2 (Exit kill true) (ended (plain false linkTwo) kill) []
-    -- P6 exit(a9,1), no link, trap 1: dropped
-    ∷ arrival (plain true unlinkedLinks) 2 (Exit (Atom 9) true) (plain true unlinkedLinks) []
-    -- P7 i2147483647 plus i1: a4; plus i0 stands
-    ∷ running (rower 1 (int 2147483647) (int 1) false unlinkedLinks) (ended (rower 1 (int 2147483647) (int 1) false unlinkedLinks) badarith)
-    ∷ running (rower 1 (int 2147483647) (int 0) false unlinkedLinks) (withPlace (rower 1 (int 2147483647) (int 0) false unlinkedLinks) 1)
-    -- P8 mailbox 15 takes a msg; at 16: 24, while link is taken
-    ∷ record { before = world (plain false unlinkedLinks) (fives 15) 2 1 (Msg (int 5) ∷ []); steps = arrive 1 2 ∷ []; accepted = 1; refusal = 0; after = world (plain false unlinkedLinks) (fives 16) 2 1 [] }
-    ∷ refusing (world (plain false unlinkedLinks) (fives 16) 2 1 (Msg (int 5) ∷ [])) (arrive 1 2) 24
-    ∷ record { before = world (plain false unlinkedLinks) (fives 16) 2 1 (Link ∷ []); steps = arrive 1 2 ∷ []; accepted = 1; refusal = 0; after = world (plain false linkTwo) (fives 16) 2 1 [] }
-    -- P9 pair with 3 takes a send; with 4: 26
-    ∷ record { before = sender 0 3; steps = run 1 ∷ []; accepted = 1; refusal = 0; after = sender 1 4 }
-    ∷ refusing (sender 0 4) (run 1) 26
-    -- P10 mail i5,a7, clauses atom, int: i5 leaves
-    ∷ record {
-      before = world (rower 3 intZero intZero false unlinkedLinks) (Plain (int 5) ∷ Plain (Atom 7) ∷ []) 1 1 [];
-      steps = run 1 ∷ [];
-      accepted = 1;
-      refusal = 0;
-      after = world (withPlace (rower 3 (int 5) intZero false unlinkedLinks) 3) (Plain (Atom 7) ∷ []) 1 1 [];
-    }
-    -- spawn of itself: 27
-    ∷ refusing (world spawner [] 1 1 []) (run 1) 27
-    -- closing without links, run twice: gone, then 22
-    ∷ record { before = world closing [] 1 1 []; steps = run 1 ∷ run 1 ∷ []; accepted = 1; refusal = 22; after = world (gone closing) [] 1 1 [] }
-    -- the sample plan, after run=1 three times, arrive=2,1, run=2
-    ∷ record {
-      before = started;
-      steps = run 1 ∷ run 1 ∷ run 1 ∷ arrive 2 1 ∷ run 2 ∷ [];
-      accepted = 5;
-      refusal = 0;
-      after = sample (withPlace (rower 1 (pid 2) (int 12) false unlinkedLinks) 3) (withPlace (rower 2 (int 12) intZero false unlinkedLinks) 2);
-    }
-    ∷ []
 
 -- ---- P2: the sample of document 01, byte by byte
 
@@ -218,6 +189,52 @@ sample-output =
     ++ (108 ∷ 105 ∷ 110 ∷ 107 ∷ 115 ∷ 61 ∷ 10 ∷ [])  -- links=
     ++ (109 ∷ 97 ∷ 105 ∷ 108 ∷ 61 ∷ 48 ∷ 10 ∷ [])  -- mail=0
 
+abbrev sampleActions : List Action
+sampleActions = run 1 ∷ run 1 ∷ run 1 ∷ arrive 2 1 ∷ run 2 ∷ []
+
+-- ---- the table
+
+pub table : List Check
+table =
+    -- P1 no steps: same node, 0 accepted
+    idle
+    -- P2 the listing of the sample
+    ∷ printing sample-plan sample-steps sample-output
+    -- P3 exit(a0,0), trap 0: from another dropped; from itself ends with a0
+    ∷ arrival (plain false unlinkedLinks) 2 (Exit normal false) (plain false unlinkedLinks) []
+    ∷ arrival (plain false unlinkedLinks) 1 (Exit normal false) (closed intZero intZero false unlinkedLinks normal) []
+    -- P4 trap 1: exit(a1,0) ends with a2; exit(a1,1) from a link gives a note
+    ∷ arrival (plain true linkTwo) 2 (Exit kill false) (closed intZero intZero true linkTwo killed) []
+    ∷ arrival (plain true linkTwo) 2 (Exit kill true) (plain true unlinkedLinks) (Note (record { 0 = 2 }) kill ∷ [])
+    -- P5 trap 0: exit(a1,1) from a link ends with a1
+    ∷ arrival (plain false linkTwo) 2 (Exit kill true) (closed intZero intZero false linkTwo kill) []
+    -- P6 exit(a9,1), no link, trap 1: dropped
+    ∷ arrival (plain true unlinkedLinks) 2 (Exit (Atom 9) true) (plain true unlinkedLinks) []
+    -- P7 i2147483647 plus i1: a4; plus i0 stands
+    ∷ running (rower 1 (int 2147483647) (int 1) false unlinkedLinks) (closed (int 2147483647) (int 1) false unlinkedLinks badarith)
+    ∷ running (rower 1 (int 2147483647) (int 0) false unlinkedLinks) (withPlace (rower 1 (int 2147483647) (int 0) false unlinkedLinks) 1)
+    -- P8 mailbox 15 takes a msg; at 16: 24, while link is taken
+    ∷ playing (world (plain false unlinkedLinks) (fives 15) 2 1 (Msg (int 5) ∷ [])) (arrive 1 2 ∷ []) 1 0 (world (plain false unlinkedLinks) (fives 16) 2 1 [])
+    ∷ refusing (world (plain false unlinkedLinks) (fives 16) 2 1 (Msg (int 5) ∷ [])) (arrive 1 2) 24
+    ∷ playing (world (plain false unlinkedLinks) (fives 16) 2 1 (Link ∷ [])) (arrive 1 2 ∷ []) 1 0 (world (plain false linkTwo) (fives 16) 2 1 [])
+    -- P9 pair with 3 takes a send; with 4: 26
+    ∷ playing (sender 0 3) (run 1 ∷ []) 1 0 (sender 1 4)
+    ∷ refusing (sender 0 4) (run 1) 26
+    -- P10 mail i5,a7, clauses atom, int: i5 leaves
+    ∷ playing (world (rower 3 intZero intZero false unlinkedLinks) (Plain (int 5) ∷ Plain (Atom 7) ∷ []) 1 1 []) (run 1 ∷ []) 1 0
+    (world (withPlace (rower 3 (int 5) intZero false unlinkedLinks) 3) (Plain (Atom 7) ∷ []) 1 1 [])
+    -- spawn of itself: 27
+    ∷ refusing (world spawner [] 1 1 []) (run 1) 27
+    -- closing without links, run twice: gone, then 22
+    ∷ playing (world (closed intZero intZero false unlinkedLinks normal) [] 1 1 []) (run 1 ∷ run 1 ∷ []) 1 22 (world left [] 1 1 [])
+    -- closing with the links 2 and 3: exit(a9,1) is sent to 2, and 3 stays
+    ∷ playing (world (closed intZero intZero false linkTwoThree (Atom 9)) [] 1 2 []) (run 1 ∷ []) 1 0 (world (closed intZero intZero false linkThree (Atom 9)) [] 1 2 (Exit (Atom 9) true ∷ []))
+    -- the sample plan, after run=1 three times, arrive=2,1, run=2
+    ∷ playing started sampleActions 5 0 (sample (withPlace (rower 1 (pid 2) (int 12) false unlinkedLinks) 3) (withPlace (rower 2 (int 12) intZero false unlinkedLinks) 2))
+    ∷ []
+
+-- ---- its rows hold
+
 node-started : nodeOf samplePlan ≡ started
 unfolding nodeOf samplePlan opWith startWith started sample opOf
 node-started = refl
@@ -225,9 +242,6 @@ node-started = refl
 sample-loaded : loadOf sample-plan ≡ record { number = 0; line = 0; node = started }
 unfolding sample-plan
 sample-loaded = loaded-sample ∙ ap (λ (n : Node). record { number = 0; line = 0; node = n }) node-started
-
-abbrev sampleActions : List Action
-sampleActions = run 1 ∷ run 1 ∷ run 1 ∷ arrive 2 1 ∷ run 2 ∷ []
 
 sample-read : (scheduleOf sample-steps .number ≡ 0) × (steps (scheduleOf sample-steps) ≡ sampleActions)
 unfolding sample-steps actionOf decode meaning scheduleOf ofLines readLines firstMalformed stepsOf refusedText acceptedSteps stepOf arrivalOf packedOf linesOf lastApart lineThen split inFront fieldsOf equal startsWith numberOf numberForm unsignedForm unsigned negative isDigit numberValue decimal rangedOf
@@ -242,24 +256,17 @@ shown-as : (r : Played) (text : List ℕ) → r .accepted ≡ 5 → r .refusal �
 unfolding playedText numberLine digits digitsIn
 shown-as r text a b c = rw (a, b, c)
 
-pub SampleProgram : Type 0
-SampleProgram = programText sample-plan sample-steps ≡ sample-output
-
-sample-program : SampleProgram
-unfolding SampleProgram programText afterLoad sample-output
+sample-program : programText sample-plan sample-steps ≡ sample-output
+unfolding programText afterLoad sample-output
 sample-program =
     let read = sample-read in
     let count = sample-count in
     rw (sample-loaded, read .0, read .1) (shown-as (play started sampleActions) _ (count .0) (count .1) sample-listing)
 
--- P1 no steps: same node, 0 accepted
-pub NoSteps : Type 0
-NoSteps = (n : Node) → Sound n → play n [] ≡ record { accepted = 0; refusal = 0; node = n }
-
-no-steps : NoSteps
-unfolding NoSteps play played
+no-steps : (n : Node) → Sound n → play n [] ≡ record { accepted = 0; refusal = 0; node = n }
+unfolding play played
 no-steps n h = rw h
 
-pub ramp : NoSteps × SampleProgram × All table
-unfolding All Holds table arrival running refusing plain rower world fives sender spawner unlinkedLinks linkTwo sample started ramp-ops opOf play played step rule ready commit incoming decide at numbered ownerBorn signalWaits pairHasRoom numberFree sound shaped viewSound view behavioursOf code linkSet standing runningSound rowSound receives fits runs runsLive runsOp closes arrives exits operand instruction operandInRange inRange hasClauses targetsFree wellPlaced codeSound isNumber fitsInt messages joined without emptied signals oldest pushed popped register withRegister moved advanced trapped linksTo linked unlinked ended gone kindsOf
-ramp = (no-steps, sample-program, (refl, (refl, (refl, (refl, (refl, (refl, (refl, (refl, (refl, (refl, (refl, (refl, (refl, (refl, (refl, (refl, (refl, tt))))))))))))))))))
+pub ramp : All table
+unfolding All Holds table arrival running refusing plain rower closed left world fives sender spawner unlinkedLinks linkTwo linkThree linkTwoThree sample started ramp-ops opOf play played step rule ready commit incoming decide at numbered ownerBorn signalWaits pairHasRoom numberFree sound shaped viewSound view behavioursOf code linkSet standing runningSound rowSound receives fits runs runsLive runsOp closes arrives exits operand instruction operandInRange inRange hasClauses targetsFree wellPlaced codeSound isNumber fitsInt messages joined without emptied signals oldest pushed popped register withRegister moved advanced trapped linksTo linked unlinked ended gone kindsOf
+ramp = (no-steps, (sample-program, (refl, (refl, (refl, (refl, (refl, (refl, (refl, (refl, (refl, (refl, (refl, (refl, (refl, (refl, (refl, (refl, (refl, (refl, tt))))))))))))))))))))
