@@ -51,6 +51,19 @@ mod tests {
     }
 
     #[test]
+    fn the_listing_of_a_nearly_full_node_has_room() {
+        let (plan, steps) = second::full(2, 0);
+        let expected = second::simulate(&plan, &steps);
+        assert!(expected.len() >= 30_000);
+        let mut out = vec![0; OUTPUT];
+        assert_eq!(simulate(&plan, &steps, &mut out), Ok(expected.len()));
+        assert_eq!(out[..expected.len()], expected);
+        let mut short = vec![7; expected.len() - 1];
+        assert_eq!(simulate(&plan, &steps, &mut short), Err(Short));
+        assert!(short.iter().all(|byte| *byte == 7));
+    }
+
+    #[test]
     fn a_gone_process_has_its_stage_only() {
         let mut out = [0; OUTPUT];
         let n = simulate(PLAN, b"run=1\nrun=1\nrun=1\n", &mut out).unwrap();

@@ -14,6 +14,7 @@ pub mod steps;
 pub mod text;
 
 pub use cases::case;
+pub use cases::full::full;
 pub use coverage::Coverage;
 
 use node::Node;

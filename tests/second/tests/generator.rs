@@ -3,7 +3,7 @@
 use second::cases::{damage, plans, schedules};
 use second::plan::{self, OPERANDS};
 use second::random::Random;
-use second::{case, reorder, simulate, simulate_counted, steps, Coverage};
+use second::{case, full, reorder, simulate, simulate_counted, steps, Coverage};
 
 fn drafted(k: u64) -> (Random, plans::Draft) {
     let mut random = Random::new(77, k);
@@ -92,5 +92,16 @@ fn reordered_steps_give_equal_nodes() {
         if let Err(error) = reorder::check(3, k) {
             panic!("check {k}: {error}");
         }
+    }
+}
+
+#[test]
+fn full_nodes_have_long_listings() {
+    for k in 0..20 {
+        let (plan, steps) = full(9, k);
+        let out = String::from_utf8(simulate(&plan, &steps)).expect("the program prints ASCII");
+        assert!(out.len() >= 30_000, "case {k}: {} bytes", out.len());
+        assert_eq!(out.matches("mail=16\n").count(), 16);
+        assert!(out.matches("flight=").count() >= 200);
     }
 }

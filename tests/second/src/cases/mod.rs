@@ -1,6 +1,7 @@
 //! The seeded generator: case number k of a seed is a plan text and a steps text.
 
 pub mod damage;
+pub mod full;
 pub mod plans;
 pub mod schedules;
 
