@@ -18,11 +18,12 @@ use Rattle.node.specs.declared.Node.{Node}
 use Rattle.node.specs.declared.Stage.{Stage}
 use Rattle.node.specs.declared.Stage.the-variants.{Unborn, Live, Closing, Gone}
 use Rattle.rules.specs.Answers.{Answer, refused, done, need, goOn, pairFull, notUnborn}
-use Rattle.rules.specs.Calls.{Call, single, schedule, nodeBehind, callNode, after, accepted, owned}
+use Rattle.rules.specs.Calls.{Call, single, schedule, nodeBehind, callNode, after}
 use Rattle.rules.specs.Effects.{Effect}
-use Rattle.rules.specs.Guarantees.{Order, SoundKept, Steps, Stopped, PlayIsSteps, Cause, undecided, full, taken, Exclusive, rank, Forward}
+use Rattle.rules.specs.Guarantees.{Order, SoundKept, Stopped, PlayIsSteps, Cause, undecided, full, taken, Exclusive, rank, Forward}
 use Rattle.rules.specs.Nodes.{Sound, process}
 use Rattle.rules.specs.Steps.{Action, run, arrive, owner, numbered, ownerBorn, signalWaits, pairHasRoom, numberFree, commit, decide, ready, rule, step, play}
+use Rattle.rules.specs.Traces.{owned, Runs}
 use Rattle.rules.proofs.Accepted.{step-rule}
 use Rattle.rules.proofs.Sample.{started}
 use Rattle.rules.proofs.Witness.{started-sound, early, late, mixed, early-steps, late-steps, mixed-steps}
@@ -73,10 +74,10 @@ calls-stay-sound k n s (single a ∷ cs) = calls-stay-sound k (nodeBehind n (ste
 pub play-none : PlayIsSteps → (n : Node) → Sound n → (play n [] .node ≡ n) × (play n [] .accepted ≡ 0) × (play n [] .refusal ≡ 0)
 play-none p n s = go (play n [] .accepted) (w .0) (w .1) (w .2)
   where
-    w : (play n [] .accepted ≤ 0) × Steps n (take (play n [] .accepted) []) (play n [] .node) × Stopped (play n [] .node) (drop (play n [] .accepted) []) (play n [] .refusal)
+    w : (play n [] .accepted ≤ 0) × Runs step n (take (play n [] .accepted) []) (play n [] .node) × Stopped (play n [] .node) (drop (play n [] .accepted) []) (play n [] .refusal)
     w = p n [] s (omega arith)
 
-    go : (k : ℕ) → k ≤ 0 → Steps n (take k []) (play n [] .node) → Stopped (play n [] .node) (drop k []) (play n [] .refusal) → (play n [] .node ≡ n) × (k ≡ 0) × (play n [] .refusal ≡ 0)
+    go : (k : ℕ) → k ≤ 0 → Runs step n (take k []) (play n [] .node) → Stopped (play n [] .node) (drop k []) (play n [] .refusal) → (play n [] .node ≡ n) × (k ≡ 0) × (play n [] .refusal ≡ 0)
     go zero h x y = (sym x, refl, y)
     go (suc k) h x y = absurd (omega arith)
 
@@ -88,10 +89,10 @@ One n a (done l) k r m = (k ≡ 1) × (r ≡ 0) × (m ≡ l)
 pub play-one : PlayIsSteps → (n : Node) (a : Action) → Sound n → One n a (step n a) (play n (a ∷ []) .accepted) (play n (a ∷ []) .refusal) (play n (a ∷ []) .node)
 play-one p n a s = go (step n a) refl (play n (a ∷ []) .accepted) (play n (a ∷ []) .refusal) (play n (a ∷ []) .node) (w .0) (w .1) (w .2)
   where
-    w : (play n (a ∷ []) .accepted ≤ 1) × Steps n (take (play n (a ∷ []) .accepted) (a ∷ [])) (play n (a ∷ []) .node) × Stopped (play n (a ∷ []) .node) (drop (play n (a ∷ []) .accepted) (a ∷ [])) (play n (a ∷ []) .refusal)
+    w : (play n (a ∷ []) .accepted ≤ 1) × Runs step n (take (play n (a ∷ []) .accepted) (a ∷ [])) (play n (a ∷ []) .node) × Stopped (play n (a ∷ []) .node) (drop (play n (a ∷ []) .accepted) (a ∷ [])) (play n (a ∷ []) .refusal)
     w = p n (a ∷ []) s (omega arith)
 
-    go : (x : Answer Node) → step n a ≡ x → (k r : ℕ) (m : Node) → k ≤ 1 → Steps n (take k (a ∷ [])) m → Stopped m (drop k (a ∷ [])) r → One n a x k r m
+    go : (x : Answer Node) → step n a ≡ x → (k r : ℕ) (m : Node) → k ≤ 1 → Runs step n (take k (a ∷ [])) m → Stopped m (drop k (a ∷ [])) r → One n a x k r m
     go (refused j) e zero r m h x y = let q : refused r ≡ refused j = sym (ap (λ (l : Node). step l a) x ∙ y) ∙ e in (refl, cc q, sym x)
     go (refused j) e (suc zero) r m h x y = absurd (let z : _≡_ {A = ℕ} 0 1 = cc (x .1, e) in omega arith)
     go (refused j) e (suc (suc k)) r m h x y = absurd (omega arith)

@@ -10,15 +10,10 @@ use native.Mathlib.Decide.{ℕ-discrete}
 use borrow.Author.Tests.{eq-eqb, ne-eqb, eqb-true}
 use lib.Dec.{eqb}
 use Rattle.rules.specs.Answers.{Answer, done}
-use Rattle.rules.specs.Calls.{owned}
+use Rattle.rules.specs.Traces.{owned, Runs}
 
--- k is reached from n by steps that are all accepted
 module _ {N S : Type 0} (step : N → S → Answer N) where
-  abbrev pub Runs : N → List S → N → Type 0
-  Runs n [] k = n ≡ k
-  Runs n (s ∷ a) k = (m : N) × (step n s ≡ done m) × Runs m a k
-
-  pub runs-append : (n m k : N) (a b : List S) → Runs n a m → Runs m b k → Runs n (a ++ b) k
+  pub runs-append : (n m k : N) (a b : List S) → Runs step n a m → Runs step m b k → Runs step n (a ++ b) k
   runs-append n m k [] b u v = rw u v
   runs-append n m k (s ∷ a) b u v = (u .0, u .1, runs-append (u .0) m k a b (u .2) v)
 

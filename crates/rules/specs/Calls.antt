@@ -2,16 +2,14 @@
 --   Call              a single step, or a play
 --   after n l         the node after a list of calls; a refused step leaves the node and the list goes on
 --   accepted n l      the steps that are accepted in the list, in their order
---   owned f i l       those steps of a list whose owner, by f, is i
 --   acceptedBy i n l  the accepted steps of the list that process i owns
-use mathlib.Core.Bool.{cond}
 use mathlib.Core.List.{List, [], _∷_, _++_}
 use Prim.Native.Nat.{ℕ}
-use lib.Dec.{eqb}
 use lib.ListN.{take}
 use Rattle.node.specs.declared.Node.{Node}
 use Rattle.rules.specs.Answers.{Answer, refused, done}
 use Rattle.rules.specs.Steps.{Action, owner, step, play}
+use Rattle.rules.specs.Traces.{owned}
 
 pub data Call : Type 0 where
   single : Action → Call
@@ -41,12 +39,6 @@ after n (c ∷ cs) = after (callNode n c) cs
 unfoldable pub accepted : Node → List Call → List Action
 accepted n [] = []
 accepted n (c ∷ cs) = callSteps n c ++ accepted (callNode n c) cs
-
--- "A process's steps are those it owns"; for steps of any kind
-module _ {S : Type 0} (ownerOf : S → ℕ) where
-  unfoldable pub owned : ℕ → List S → List S
-  owned i [] = []
-  owned i (a ∷ l) = cond (eqb (ownerOf a) i) (a ∷ owned i l) (owned i l)
 
 abbrev pub acceptedBy : ℕ → Node → List Call → List Action
 acceptedBy i n cs = owned owner i (accepted n cs)

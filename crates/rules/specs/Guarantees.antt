@@ -18,6 +18,7 @@ use Rattle.rules.specs.Calls.{Call, after, acceptedBy}
 use Rattle.rules.specs.Effects.{Effect}
 use Rattle.rules.specs.Nodes.{Sound, process}
 use Rattle.rules.specs.Steps.{Action, owner, numbered, signalWaits, pairHasRoom, numberFree, decide, step, play}
+use Rattle.rules.specs.Traces.{Runs}
 
 -- For every sound node and every two lists of calls, single steps or plays, refused steps included: where each process 1 to 16 has the same
 -- accepted steps in the same order, the nodes after them are one and the same record, hence equal nodes.
@@ -30,11 +31,6 @@ Order =
 abbrev pub SoundKept : Type 0
 SoundKept = ((n m : Node) (a : Action) → step n a ≡ done m → Sound m) × ((n : Node) (l : List Action) → Sound n → Sound (play n l .node))
 
--- each of the steps l is accepted, from n on, and the last leaves m
-abbrev pub Steps : Node → List Action → Node → Type 0
-Steps n [] m = n ≡ m
-Steps n (a ∷ l) m = (k : Node) × (step n a ≡ done k) × Steps k l m
-
 -- the next step of a play that stopped, if there is one, is refused with the number that the play answers
 abbrev pub Stopped : Node → List Action → ℕ → Type 0
 Stopped n [] k = k ≡ 0
@@ -43,7 +39,7 @@ Stopped n (a ∷ l) k = step n a ≡ refused k
 abbrev pub PlayIsSteps : Type 0
 PlayIsSteps =
     (n : Node) (l : List Action) → Sound n → length l ≤ 4096 →
-    (play n l .accepted ≤ length l) × Steps n (take (play n l .accepted) l) (play n l .node) × Stopped (play n l .node) (drop (play n l .accepted) l) (play n l .refusal)
+    (play n l .accepted ≤ length l) × Runs step n (take (play n l .accepted) l) (play n l .node) × Stopped (play n l .node) (drop (play n l .accepted) l) (play n l .refusal)
 
 -- why a step that passes 20, 21 and 23 is refused: the decision says so (22, 24, 25), or 26, or 27
 pub data Cause (n : Node) (a : Action) : ℕ → Type 0 where

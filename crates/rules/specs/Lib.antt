@@ -8,5 +8,6 @@ pub mod Run
 pub mod Arrive
 pub mod Steps
 pub mod Suggest
+pub mod Traces
 pub mod Calls
 pub mod Guarantees
