@@ -15,7 +15,9 @@ use Rattle.node.specs.Values.{normal}
 use Rattle.rules.specs.Answers.{Answer, refused}
 use Rattle.rules.specs.Effects.{State, Effect, ends}
 use Rattle.rules.specs.Run.{runsOp, closes, runsLive, runsIn, runs}
-use Rattle.rules.proofs.Told.{Told, op-told, closes-told}
+use Rattle.rules.proofs.Ops.{op-shown}
+use Rattle.rules.proofs.Runs.{closes-told}
+use Rattle.rules.proofs.Told.{Told}
 
 not-25 : (x : Answer Effect) → Told (λ m. m < 25) x → (x ≡ refused 25 → ⊥)
 not-25 x h e = let z : 25 < 25 = subst (Told (λ m. m < 25)) e h in omega (arith, z)

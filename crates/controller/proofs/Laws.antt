@@ -19,7 +19,7 @@ use Rattle.listing.specs.Listing.{listingOf}
 use Rattle.node.specs.declared.Node.{Node}
 use Rattle.plan.specs.declared.Loaded.{Loaded}
 use Rattle.plan.specs.Plans.{loadOf}
-use Rattle.rules.proofs.Told.{told-31, not-told-31}
+use Rattle.rules.proofs.Refusals.{told-31, not-told-31}
 use Rattle.rules.specs.Nodes.{sound}
 use Rattle.rules.specs.Steps.{Action, Played, play}
 use Rattle.schedule.specs.declared.Schedule.{Schedule}

@@ -28,7 +28,8 @@ use Rattle.node.specs.declared.Value.{Value}
 use Rattle.node.specs.Lists.{rising, allOf}
 use Rattle.node.specs.Mailboxes.{messages}
 use Rattle.rules.proofs.All.{parts, allOf-at}
-use Rattle.rules.proofs.Keep.{Placed, Alive, alive, code-short}
+use Rattle.rules.proofs.Living.{Placed, Alive, alive}
+use Rattle.rules.proofs.Places.{code-short}
 use Rattle.rules.proofs.Records.{number-bounds}
 use Rattle.rules.specs.Behaviours.{Instruction, codeSound}
 use Rattle.rules.specs.Nodes.{live, running, linkSet, standing, standingIn, standingSound, signalSound, rowSound}

@@ -31,8 +31,8 @@ use Rattle.rules.specs.Nodes.{Sound, behavioursOf, code, mailbox, process, rowS
 use Rattle.rules.specs.Values.{fitsInt, isNumber}
 use Rattle.rules.proofs.All.{both, parts, allOf-map}
 use Rattle.rules.proofs.Firsts.{set-read}
-use Rattle.rules.proofs.Keep.{fresh-sound}
 use Rattle.rules.proofs.Kept.{of-parts}
+use Rattle.rules.proofs.Places.{fresh-sound}
 use Rattle.rules.proofs.Records.{number-bounds}
 use Rattle.rules.proofs.Shape.{Sized, set-all}
 use Rattle.text.specs.Parts.{linesOf}

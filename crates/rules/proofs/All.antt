@@ -55,17 +55,17 @@ rising-at i zero k d h = absurd (not-suc-le-zero h)
 rising-at i (suc n) zero d h = omega arith
 rising-at i (suc n) (suc k) d h = rising-at (i + 1) n k d (le-of-suc-le-suc h) ∙ omega arith
 
--- a table, entry by entry: what is said of an entry with its number
-unfoldable pub Each : {A : Type 0} → (ℕ → A → Type 0) → ℕ → List A → Type 0
-Each P k [] = Unit {0}
-Each P k (x ∷ l) = P k x × Each P (suc k) l
+-- a table, row by row: what is said of each entry with its number, as row then row then .. last
+infixr 30 _then_
+pub data Each {A : Type 0} (P : ℕ → A → Type 0) : ℕ → List A → Type 0 where
+  last : {k : ℕ} → Each P k []
+  _then_ : {k : ℕ} {x : A} {l : List A} → P k x → Each P (suc k) l → Each P k (x ∷ l)
 
 pub each-at : {A : Type 0} (P : ℕ → A → Type 0) (k : ℕ) (l : List A) (d : A) → Each P k l → ((j : ℕ) → P j d) → (j : ℕ) → P (k + j) (getD l j d)
-unfolding Each
-each-at P k [] d h g zero = g (k + 0)
-each-at P k [] d h g (suc j) = g (k + suc j)
-each-at P k (x ∷ l) d h g zero = let e : k + 0 ≡ k = omega arith in rw e (h .0)
-each-at P k (x ∷ l) d h g (suc j) = let e : k + suc j ≡ suc k + j = omega arith in rw e (each-at P (suc k) l d (h .1) g j)
+each-at P k [] d last g zero = g (k + 0)
+each-at P k [] d last g (suc j) = g (k + suc j)
+each-at P k (x ∷ l) d (h then t) g zero = let e : k + 0 ≡ k = omega arith in rw e h
+each-at P k (x ∷ l) d (h then t) g (suc j) = let e : k + suc j ≡ suc k + j = omega arith in rw e (each-at P (suc k) l d t g j)
 
 -- a list made over i, i + 1, ..
 module _ {A : Type 0} (g : ℕ → A) where

@@ -31,7 +31,7 @@ use Rattle.rules.specs.Steps.{Action, run, arrive, owner, isUnborn, at, 
 use Rattle.rules.specs.Values.{isNumber}
 use Rattle.rules.proofs.Accepted.{Act}
 use Rattle.rules.proofs.All.{parts, allOf-at}
-use Rattle.rules.proofs.Keep.{SentOk, BornOk, Keeps}
+use Rattle.rules.proofs.Keeps.{SentOk, BornOk, Keeps}
 use Rattle.rules.proofs.Kept.{pair-same, owner-number, arrival-count}
 use Rattle.rules.proofs.Records.{number-bounds}
 use Rattle.rules.proofs.Shape.{Sized, arrival-length}

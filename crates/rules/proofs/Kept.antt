@@ -34,8 +34,11 @@ use Rattle.rules.specs.Values.{numbers, isNumber, fitsInt}
 use Rattle.rules.proofs.Accepted.{Act, step-goes}
 use Rattle.rules.proofs.All.{both, parts, allOf-at, allOf-any, allOf-map, made-all, all-made}
 use Rattle.rules.proofs.Firsts.{firsts-joined, firsts-left, set-read, at-read}
-use Rattle.rules.proofs.Full.{Full, Fills, runs-full, arrives-full}
-use Rattle.rules.proofs.Keep.{SentOk, BornOk, Keeps, Good, emptied-sound, runs-good, arrives-good}
+use Rattle.rules.proofs.Arrivals.{arrives-full, arrives-good}
+use Rattle.rules.proofs.Full.{Full, Fills}
+use Rattle.rules.proofs.Keeps.{SentOk, BornOk, Keeps, Good}
+use Rattle.rules.proofs.Living.{emptied-sound}
+use Rattle.rules.proofs.Runs.{runs-full, runs-good}
 use Rattle.rules.proofs.Records.{number-bounds}
 use Rattle.rules.proofs.Shape.{Sized, sized-of, of-sized, sized-kept}
 
@@ -254,12 +257,12 @@ pub decided-keeps : (n : Node) (a : Action) (e : Effect) → Parts n → So (num
 unfolding decide numbered
 decided-keeps n (run i) e p m w d =
     kept-of (runs (code n (process n i .behaviour .0)) i (state n i))
-    (runs-good (behavioursOf n) i m (state n i) (p .processes i m) (code n (process n i .behaviour .0)) (code-of n (process n i .behaviour .0)) (p .codes))
+    (runs-good (code n (process n i .behaviour .0)) i (state n i) (behavioursOf n) m (p .processes i m) (code-of n (process n i .behaviour .0)) (p .codes))
     d
 decided-keeps n (arrive i j) e p m w d =
     let b = parts (isNumber i) (isNumber j) m in
     kept-of (arrives i j (state n i) (incoming n j i))
-    (arrives-good (behavioursOf n) i (b .0) (state n i) (p .processes i (b .0)) j (b .1) (incoming n j i) (incoming-sound n j i (p .rows j i (b .1) (b .0))))
+    (arrives-good i j (state n i) (behavioursOf n) (b .0) (p .processes i (b .0)) (b .1) (incoming n j i) (incoming-sound n j i (p .rows j i (b .1) (b .0))))
     d
 
 pub act-keeps : (n : Node) (a : Action) (e : Effect) → Parts n → Act n a e → Keeps (behavioursOf n) (owner a) e
@@ -275,8 +278,8 @@ module _ (n : Node) (z : Sized n) (i : ℕ) (h : So (isNumber i)) where
 
 act-full : (n : Node) (a : Action) (e : Effect) → Sized n → Act n a e → Full e
 unfolding decide
-act-full n (run i) e z t = let h = owner-number (run i) (t .numbers) in subst Fills (t .decided) (runs-full (state n i) (own-links n z i h) (own-slots n z i h) _ i)
-act-full n (arrive i j) e z t = let h = owner-number (arrive i j) (t .numbers) in subst Fills (t .decided) (arrives-full (state n i) (own-links n z i h) (own-slots n z i h) i j _)
+act-full n (run i) e z t = let h = owner-number (run i) (t .numbers) in subst Fills (t .decided) (runs-full _ i (state n i) (own-links n z i h) (own-slots n z i h))
+act-full n (arrive i j) e z t = let h = owner-number (arrive i j) (t .numbers) in subst Fills (t .decided) (arrives-full i j (state n i) _ (own-links n z i h) (own-slots n z i h))
 
 pub commit-sound : (n : Node) (a : Action) (e : Effect) → Parts n → Act n a e → Parts (commit n a e)
 unfolding commit behavioursOf code

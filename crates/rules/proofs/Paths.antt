@@ -26,7 +26,8 @@ use Rattle.rules.specs.Nodes.{behavioursOf, code, process, mailbox, row}
 use Rattle.rules.specs.Steps.{Action, run, arrive, owner, at, commit, numbered, ownerBorn, signalWaits, pairHasRoom, numberFree, decide, ready, rule}
 use Rattle.rules.specs.Values.{isNumber}
 use Rattle.rules.proofs.All.{parts}
-use Rattle.rules.proofs.Keep.{live-within, code-passes, code-size, recv-clauses}
+use Rattle.rules.proofs.Living.{live-within}
+use Rattle.rules.proofs.Places.{code-passes, code-size, recv-clauses}
 use Rattle.rules.proofs.Kept.{Parts, code-of}
 
 -- ---- refusals

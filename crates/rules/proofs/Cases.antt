@@ -1,0 +1,151 @@
+-- The rules by cases, over any statement on an answer: what holds of each answer that a rule can give holds of the answer that it gives. So
+-- what is to be shown of every op or signal is said of each case once. Assumes nothing.
+use mathlib.Core.Bool.{Bool, true, false, cond, not, So, _&&_}
+use mathlib.Core.List.{List, [], _∷_}
+use mathlib.Core.Option.{Option, none, some}
+use mathlib.Core.Path.{_≡_, refl}
+use Prim.Native.Nat.{ℕ, _+_}
+use lib.Dec.{leb, ltb, eqb}
+use lib.IntN.{ℤ, _+ℤ_}
+use lib.ListN.{length, getD, take, drop}
+use lib.Signed.{ltZ}
+use Rattle.node.specs.declared.Message.{Message}
+use Rattle.node.specs.declared.Op.{Op}
+use Rattle.node.specs.declared.Process.{Process}
+use Rattle.node.specs.declared.ProcessNumber.{ProcessNumber}
+use Rattle.node.specs.declared.Signal.{Signal}
+use Rattle.node.specs.declared.Signal.the-variants.{Exit}
+use Rattle.node.specs.declared.Stage.{Stage}
+use Rattle.node.specs.declared.Stage.the-variants.{Unborn, Live, Closing, Gone}
+use Rattle.node.specs.declared.Value.{Value}
+use Rattle.node.specs.declared.Value.the-variants.{Int, Atom, Pid}
+use Rattle.node.specs.Lists.{allOf}
+use Rattle.node.specs.Mailboxes.{messages, joined}
+use Rattle.node.specs.Nodes.{noOp}
+use Rattle.node.specs.Processes.{moved, advanced, linksTo, unlinked, gone}
+use Rattle.node.specs.Values.{normal, kill, killed, badarg, badarith}
+use Rattle.rules.specs.Answers.{Answer, refused, done, need, mailboxFull, noFit, ownerUnborn, ownerGone}
+use Rattle.rules.specs.Arrive.{joinsWith, notes, exits, takes, arrivesIn, arrives}
+use Rattle.rules.specs.Effects.{State, Effect, becomes, ends, sends}
+use Rattle.rules.specs.Receive.{Fit, search, receivesFit, receives}
+use Rattle.rules.specs.Run.{setsRegister, jumpsIf, adds, compares, toProcess, toOther, runsOp, lowest, closesTo, closes, runsLive, runsIn, runs}
+use Rattle.rules.specs.Values.{numbers, isNumber, fitsInt, sameValue}
+use Rattle.rules.proofs.All.{parts}
+
+module _ (st : State) (P : Answer Effect → Type 0) where
+  -- ---- the ops
+
+  pub jumps-any : (t : ℕ) → P (becomes st (moved (st .process) t)) → P (becomes st (advanced (st .process))) → (b : Bool) → P (jumpsIf st b t)
+  jumps-any t h g true = h
+  jumps-any t h g false = g
+
+  pub adds-any : (r : ℕ) → ((z : ℤ) → So (fitsInt z) → P (setsRegister st r (Int z))) → P (ends st badarith) → (v w : Value) → P (adds st r v w)
+  adds-any r h g (Int x) (Int y) = go (fitsInt (x +ℤ y)) refl
+    where
+      go : (b : Bool) → fitsInt (x +ℤ y) ≡ b → P (cond b (setsRegister st r (Int (x +ℤ y))) (ends st badarith))
+      go true e = h (x +ℤ y) e
+      go false e = g
+  adds-any r h g (Int x) (Atom y) = g
+  adds-any r h g (Int x) (Pid y) = g
+  adds-any r h g (Atom x) w = g
+  adds-any r h g (Pid x) w = g
+
+  pub compares-any : (t : ℕ) → ((b : Bool) → P (jumpsIf st b t)) → P (ends st badarg) → (v w : Value) → P (compares st t v w)
+  compares-any t h g (Int x) (Int y) = h (ltZ x y)
+  compares-any t h g (Int x) (Atom y) = g
+  compares-any t h g (Int x) (Pid y) = g
+  compares-any t h g (Atom x) w = g
+  compares-any t h g (Pid x) w = g
+
+  pub toProcess-any : (f : ℕ → Answer Effect) (v : Value) → ((j : ProcessNumber) → v ≡ Pid j → P (f (j .0))) → P (ends st badarg) → P (toProcess st v f)
+  toProcess-any f (Int x) h g = g
+  toProcess-any f (Atom x) h g = g
+  toProcess-any f (Pid j) h g = h j refl
+
+  pub toOther-any : (i j : ℕ) (x : Answer Effect) → P (becomes st (advanced (st .process))) → (eqb j i ≡ false → P x) → P (toOther i st j x)
+  toOther-any i j x g h = go (eqb j i) refl
+    where
+      go : (b : Bool) → eqb j i ≡ b → P (cond b (becomes st (advanced (st .process))) x)
+      go true e = g
+      go false e = h e
+
+  pub receives-any : (code : List Op) (o : Op) → P (refused noFit) →
+      ((f : Fit) → search (take (o .small) (drop (st .process .place + 1) code)) 0 (messages (st .mail)) ≡ some f → P (receivesFit st (some f))) →
+      P (receives code st o)
+  unfolding receives
+  receives-any code o g h = go (search (take (o .small) (drop (st .process .place + 1) code)) 0 (messages (st .mail))) refl
+    where
+      go : (f : Option Fit) → search (take (o .small) (drop (st .process .place + 1) code)) 0 (messages (st .mail)) ≡ f → P (receivesFit st f)
+      go none e = g
+      go (some f) e = h f e
+
+  -- ---- a run
+
+  -- the first of some numbers that passes a test is one of them
+  lowest-any : (Q : Option ℕ → Type 0) (f : ℕ → Bool) → Q none → ((j : ℕ) → So (isNumber j) → Q (some j)) → (l : List ℕ) → So (allOf isNumber l) → Q (lowest f l)
+  lowest-any Q f g h [] a = g
+  lowest-any Q f g h (k ∷ l) a = let w = parts (isNumber k) (allOf isNumber l) a in go (f k) (h k (w .0)) (lowest-any Q f g h l (w .1))
+    where
+      go : (b : Bool) → Q (some k) → Q (lowest f l) → Q (cond b (some k) (lowest f l))
+      go true x y = x
+      go false x y = y
+
+  pub closes-any : P (becomes st (gone (st .process))) → ((j : ℕ) → So (isNumber j) → P (sends st (unlinked (st .process) j) j (Exit (st .process .reason) true))) → P (closes st)
+  unfolding closes isNumber
+  closes-any g h = lowest-any (λ o. P (closesTo st o)) (linksTo (st .process)) g h numbers refl
+
+  pub runs-any : (code : List Op) (i : ℕ) →
+      (st .process .stage ≡ Unborn → P (refused ownerUnborn)) →
+      (st .process .stage ≡ Live → leb (length code) (st .process .place) ≡ true → P (ends st normal)) →
+      (st .process .stage ≡ Live → leb (length code) (st .process .place) ≡ false → P (runsOp code i st (getD code (st .process .place) noOp))) →
+      (st .process .stage ≡ Closing → P (closes st)) →
+      (st .process .stage ≡ Gone → P (refused ownerGone)) →
+      P (runs code i st)
+  unfolding runs runsLive
+  runs-any code i u e o c g = go (st .process .stage) refl
+    where
+      live : st .process .stage ≡ Live → (b : Bool) → leb (length code) (st .process .place) ≡ b → P (cond b (ends st normal) (runsOp code i st (getD code (st .process .place) noOp)))
+      live q true d = e q d
+      live q false d = o q d
+
+      go : (s : Stage) → st .process .stage ≡ s → P (runsIn s code i st)
+      go Unborn q = u q
+      go Live q = live q (leb (length code) (st .process .place)) refl
+      go Closing q = c q
+      go Gone q = g q
+
+  -- ---- an arrival
+
+  pub joins-any : (q : Process) (x : Message) → P (refused mailboxFull) → (ltb (st .mail .count) 16 ≡ true → P (done (record { process = q; mail = joined (st .mail) x; sent = none; born = none }))) → P (joinsWith st q x)
+  joins-any q x g h = go (ltb (st .mail .count) 16) refl
+    where
+      go : (b : Bool) → ltb (st .mail .count) 16 ≡ b → P (need b mailboxFull (done (record { process = q; mail = joined (st .mail) x; sent = none; born = none })))
+      go true e = h e
+      go false e = g
+
+  -- the five lines: dropped (1 and 4), killed (2), noted (3), ended (5)
+  pub exits-any : (i j : ℕ) (v : Value) (b : Bool) → P (becomes st (st .process)) → P (ends st killed) → P (notes j st v b) → P (ends st v) → P (exits i j st v b)
+  unfolding exits
+  exits-any i j v b same kills noted ended = go (b && not (linksTo (st .process) j)) (not b && sameValue v kill) (st .process .trap) (sameValue v normal && not (eqb j i))
+    where
+      go : (x y z w : Bool) → P (cond x (becomes st (st .process)) (cond y (ends st killed) (cond z (notes j st v b) (cond w (becomes st (st .process)) (ends st v)))))
+      go true y z w = same
+      go false true z w = kills
+      go false false true w = noted
+      go false false false true = same
+      go false false false false = ended
+
+  pub arrives-any : (i j : ℕ) (x : Signal) →
+      (st .process .stage ≡ Unborn → P (refused ownerUnborn)) →
+      (st .process .stage ≡ Live → P (takes i j st x)) →
+      (st .process .stage ≡ Closing → P (becomes st (st .process))) →
+      (st .process .stage ≡ Gone → P (becomes st (st .process))) →
+      P (arrives i j st x)
+  unfolding arrives
+  arrives-any i j x u t c g = go (st .process .stage) refl
+    where
+      go : (s : Stage) → st .process .stage ≡ s → P (arrivesIn s i j st x)
+      go Unborn q = u q
+      go Live q = t q
+      go Closing q = c q
+      go Gone q = g q

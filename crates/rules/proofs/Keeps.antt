@@ -1,0 +1,66 @@
+-- What the effect of a step must keep of soundness, stated once (`Keeps`), and the effects that keep it. Assumes nothing.
+use mathlib.Core.Bool.{false, So}
+use mathlib.Core.List.{List}
+use mathlib.Core.Option.{Option, none, some}
+use mathlib.Core.Path.{_≡_, refl}
+use Prim.Native.Nat.{ℕ, _-_}
+use Rattle.node.specs.declared.Mailbox.{Mailbox}
+use Rattle.node.specs.declared.Process.{Process}
+use Rattle.node.specs.declared.Signal.{Signal}
+use Rattle.node.specs.declared.Value.{Value}
+use Rattle.node.specs.Mailboxes.{emptied}
+use Rattle.node.specs.Processes.{linksTo, ended}
+use Rattle.rules.specs.Answers.{Answer, refused, done}
+use Rattle.rules.specs.Behaviours.{Instruction}
+use Rattle.rules.specs.Effects.{State, Effect, Sending, Birth, becomes, ends, sends}
+use Rattle.rules.specs.Nodes.{standing, linkSet, standingSound, signalSound}
+use Rattle.rules.specs.Steps.{isUnborn}
+use Rattle.rules.specs.Values.{isNumber, valueSound}
+use Rattle.rules.proofs.All.{both}
+use Rattle.rules.proofs.Living.{Unlinked, Alive, alive-sound, live-born}
+
+-- ---- what an effect must keep
+
+abbrev pub SentOk : ℕ → Option Sending → Type 0
+SentOk i none = Unit {0}
+SentOk i (some x) = So (isNumber (x .to)) × So (signalSound i (x .to) (x .signal))
+
+-- a spawned process is sound whatever mailbox is emptied for it
+pub record BirthOk (codes : List (List Instruction)) (b : Birth) : Type 0 where
+  pub number : So (isNumber (b .number))
+  pub sound : (m : Mailbox) → So (standingSound codes (b .number) (standing (b .process) (emptied m)))
+  pub born : isUnborn (b .process .stage) ≡ false
+
+abbrev pub BornOk : List (List Instruction) → Option Birth → Type 0
+BornOk codes none = Unit {0}
+BornOk codes (some b) = BirthOk codes b
+
+-- no effect both sends and brings a process to life, so 26 and 27 never meet
+abbrev pub NotBoth : Option Sending → Option Birth → Type 0
+NotBoth none b = Unit {0}
+NotBoth (some x) none = Unit {0}
+NotBoth (some x) (some b) = ⊥
+
+pub record Keeps (codes : List (List Instruction)) (i : ℕ) (e : Effect) : Type 0 where
+  pub sound : So (standingSound codes i (standing (e .process) (e .mail)))
+  pub born : isUnborn (e .process .stage) ≡ false
+  pub sent : SentOk i (e .sent)
+  pub birth : BornOk codes (e .born)
+  pub apart : NotBoth (e .sent) (e .born)
+
+-- an answer that refuses keeps everything; one that accepts has an effect that does
+abbrev pub Good : List (List Instruction) → ℕ → Answer Effect → Type 0
+Good codes i (refused k) = Unit {0}
+Good codes i (done e) = Keeps codes i e
+
+-- only the process changes
+pub becomes-alive : (codes : List (List Instruction)) (i : ℕ) (st : State) (q : Process) → Alive codes i q (st .mail) → Good codes i (becomes st q)
+becomes-alive codes i st q a = record { sound = alive-sound codes i q (st .mail) a; born = live-born codes i q (st .mail) a; sent = tt; birth = tt; apart = tt }
+
+pub sends-alive : (codes : List (List Instruction)) (i : ℕ) (st : State) (q : Process) (j : ℕ) (x : Signal) → Alive codes i q (st .mail) → So (isNumber j) → So (signalSound i j x) → Good codes i (sends st q j x)
+sends-alive codes i st q j x a n h = record { sound = alive-sound codes i q (st .mail) a; born = live-born codes i q (st .mail) a; sent = (n, h); birth = tt; apart = tt }
+
+-- an ended process keeps its reason and its links
+pub ends-good : (codes : List (List Instruction)) (i : ℕ) (st : State) (v : Value) → So (valueSound v) → Unlinked i (st .process) → Good codes i (ends st v)
+unfolding standing ended linkSet linksTo
+ends-good codes i st v h a = record { sound = both h a; born = refl; sent = tt; birth = tt; apart = tt }

@@ -1,0 +1,238 @@
+-- A live process taken apart into what a change of it touches, its place, its registers, its links and its mailbox (`Alive`), and what each
+-- change keeps of them. Assumes nothing.
+use mathlib.Core.Bool.{Bool, true, false, not, So, cond, _&&_}
+use mathlib.Core.List.{List, []}
+use mathlib.Core.Path.{_≡_, refl, sym, _∙_, ap, subst}
+use Prim.Native.Nat.{ℕ, zero, suc, _+_, _-_, _≤_, _<_, min}
+use native.Mathlib.Omega.{arith}
+use borrow.Author.Tests.{leb-true, le-leb, eqb-false, not-true}
+use lib.Dec.{leb, eqb}
+use lib.ListN.{length, getD, set, replicate, length-map}
+use lib.Seq.{getD-set-other}
+use Rattle.node.specs.declared.BehaviourNumber.{BehaviourNumber}
+use Rattle.node.specs.declared.Mailbox.{Mailbox}
+use Rattle.node.specs.declared.Message.{Message}
+use Rattle.node.specs.declared.Process.{Process}
+use Rattle.node.specs.declared.Slot.{Slot}
+use Rattle.node.specs.declared.Stage.{Stage}
+use Rattle.node.specs.declared.Stage.the-variants.{Unborn, Live, Closing, Gone}
+use Rattle.node.specs.declared.Value.{Value}
+use Rattle.node.specs.Lists.{firsts, allOf}
+use Rattle.node.specs.Mailboxes.{noMessage, messages, joined, without, emptied}
+use Rattle.node.specs.Processes.{fresh, register, withRegister, withRegisters, moved, trapped, linksTo, linked, unlinked}
+use Rattle.node.proofs.Lists.{firsts-length}
+use Rattle.rules.specs.Behaviours.{Instruction, onClause}
+use Rattle.rules.specs.Nodes.{standingIn, standing, linkSet, runningSound, standingSound}
+use Rattle.rules.specs.Steps.{isUnborn}
+use Rattle.rules.specs.Values.{isNumber, fitsInt, valueSound, messageSound}
+use Rattle.rules.proofs.All.{both, parts, allOf-map}
+use Rattle.rules.proofs.Firsts.{firsts-joined, firsts-left, set-false}
+use Rattle.rules.proofs.Records.{number-bounds}
+
+-- ---- a live process
+
+abbrev pub codeOf : List (List Instruction) → ℕ → List Instruction
+codeOf codes b = getD codes (b - 1) []
+
+-- behaviour b, at place t
+pub record Placed (codes : List (List Instruction)) (b t : ℕ) : Type 0 where
+  pub known : So (leb 1 b && leb b (length codes))
+  pub within : So (leb t (length (codeOf codes b)))
+  pub off : So (not (onClause (codeOf codes b) t))
+
+pub record Valued (a b c d : Value) : Type 0 where
+  pub v0 : So (valueSound a)
+  pub v1 : So (valueSound b)
+  pub v2 : So (valueSound c)
+  pub v3 : So (valueSound d)
+
+abbrev pub Unlinked : ℕ → Process → Type 0
+Unlinked i p = So (not (linkSet p i))
+
+pub record Mailed (m : Mailbox) : Type 0 where
+  pub few : So (leb (length (messages m)) 16)
+  pub sound : So (allOf messageSound (messages m))
+
+pub record Alive (codes : List (List Instruction)) (i : ℕ) (p : Process) (m : Mailbox) : Type 0 where
+  pub stage : p .stage ≡ Live
+  pub placed : Placed codes (p .behaviour .0) (p .place)
+  pub valued : Valued (p .r0) (p .r1) (p .r2) (p .r3)
+  pub apart : Unlinked i p
+  pub mailed : Mailed m
+
+module _ (codes : List (List Instruction)) (i : ℕ) (p : Process) (m : Mailbox) where
+  pub alive : p .stage ≡ Live → So (standingSound codes i (standing p m)) → Alive codes i p m
+  unfolding standing runningSound
+  alive e h =
+      let t : So (standingSound codes i (standingIn Live p m)) = subst (λ (s : Stage). So (standingSound codes i (standingIn s p m))) e h in
+      let a = parts _ _ t in
+      let b = parts _ _ (a .0) in
+      let c = parts _ _ (b .0) in
+      let d = parts _ _ (c .0) in
+      let f = parts _ _ (d .0) in
+      let g = parts _ _ (f .0) in
+      let v = parts _ _ (d .1) in
+      let w = parts _ _ (v .1) in
+      let x = parts _ _ (w .1) in
+      record {
+        stage = e;
+        placed = record { known = g .0; within = g .1; off = f .1 };
+        valued = record { v0 = v .0; v1 = w .0; v2 = x .0; v3 = parts _ _ (x .1) .0 };
+        apart = a .1;
+        mailed = record { few = c .1; sound = b .1 };
+      }
+
+  pub alive-sound : Alive codes i p m → So (standingSound codes i (standing p m))
+  unfolding standing runningSound
+  alive-sound a =
+      let v = a .valued in
+      let x = a .placed in
+      let t : So (standingSound codes i (standingIn Live p m)) =
+      both (both (both (both (both (both (x .known) (x .within)) (x .off)) (both (v .v0) (both (v .v1) (both (v .v2) (both (v .v3) refl))))) (a .mailed .few)) (a .mailed .sound)) (a .apart) in
+      subst (λ (s : Stage). So (standingSound codes i (standingIn s p m))) (sym (a .stage)) t
+
+-- the number of messages is the count
+pub messages-length : (m : Mailbox) → length (messages m) ≡ m .count
+unfolding messages
+messages-length m = length-map (firsts noMessage (m .count) (m .slots)) (λ (s : Slot). s .message) ∙ firsts-length noMessage (m .count) (m .slots)
+
+messageOk : Slot → Bool
+messageOk s = messageSound (s .message)
+
+messages-sound : (m : Mailbox) → allOf messageSound (messages m) ≡ allOf messageOk (firsts noMessage (m .count) (m .slots))
+unfolding messages messageOk
+messages-sound m = allOf-map messageSound (λ (s : Slot). s .message) (firsts noMessage (m .count) (m .slots))
+
+module _ (m : Mailbox) (a : Mailed m) where
+  held-sound : So (allOf messageOk (firsts noMessage (m .count) (m .slots)))
+  held-sound = rw messages-sound at (a .sound)
+
+  count-16 : m .count ≤ 16
+  count-16 = rw messages-length at (leb-true (length (messages m)) 16 (a .few))
+
+  -- a message joins where there is room
+  pub joined-mailed : (x : Message) → So (messageSound x) → m .count < 16 → Mailed (joined m x)
+  unfolding joined messageOk fitsInt
+  joined-mailed x h g =
+      let e : min (m .count + 1) 255 ≡ suc (m .count) = omega arith in
+      record {
+        few = rw messages-length (le-leb (min (m .count + 1) 255) 16 (omega arith));
+        sound = rw (messages-sound, e) (firsts-joined messageOk noMessage refl (record { message = x }) h (m .count) (m .slots) held-sound);
+      }
+
+  pub without-mailed : (k : ℕ) → Mailed (without m k)
+  unfolding without messageOk fitsInt
+  without-mailed k = record {
+    few = rw messages-length (le-leb (m .count - 1) 16 (omega (arith, count-16)));
+    sound = rw messages-sound (firsts-left messageOk noMessage refl k (m .count) (m .slots) held-sound);
+  }
+
+pub emptied-mailed : (m : Mailbox) → Mailed (emptied m)
+unfolding emptied messages
+emptied-mailed m = record { few = refl; sound = refl }
+
+-- ---- registers
+
+module _ (p : Process) (v : Valued (p .r0) (p .r1) (p .r2) (p .r3)) where
+  pub register-sound : (r : ℕ) → So (valueSound (register p r))
+  unfolding register
+  register-sound r = go (eqb r 0) (eqb r 1) (eqb r 2)
+    where
+      go : (a b c : Bool) → So (valueSound (cond a (p .r0) (cond b (p .r1) (cond c (p .r2) (p .r3)))))
+      go true b c = v .v0
+      go false true c = v .v1
+      go false false true = v .v2
+      go false false false = v .v3
+
+-- what holds of a process whatever sound values stand in its registers, holds where one register changes
+module _ (p : Process) (v : Valued (p .r0) (p .r1) (p .r2) (p .r3)) (Q : Process → Type 0) (h : (a b c d : Value) → Valued a b c d → Q (withRegisters p a b c d)) where
+  pub withRegister-keeps : (r : ℕ) (x : Value) → So (valueSound x) → Q (withRegister p r x)
+  unfolding withRegister
+  withRegister-keeps r x g = go (eqb r 0) (eqb r 1) (eqb r 2)
+    where
+      go : (a b c : Bool) → Q (cond a (withRegisters p x (p .r1) (p .r2) (p .r3)) (cond b (withRegisters p (p .r0) x (p .r2) (p .r3)) (cond c (withRegisters p (p .r0) (p .r1) x (p .r3)) (withRegisters p (p .r0) (p .r1) (p .r2) x))))
+      go true b c = h x (p .r1) (p .r2) (p .r3) (record { v0 = g; v1 = v .v1; v2 = v .v2; v3 = v .v3 })
+      go false true c = h (p .r0) x (p .r2) (p .r3) (record { v0 = v .v0; v1 = g; v2 = v .v2; v3 = v .v3 })
+      go false false true = h (p .r0) (p .r1) x (p .r3) (record { v0 = v .v0; v1 = v .v1; v2 = g; v3 = v .v3 })
+      go false false false = h (p .r0) (p .r1) (p .r2) x (record { v0 = v .v0; v1 = v .v1; v2 = v .v2; v3 = g })
+
+-- ---- links
+
+module _ (i : ℕ) (p : Process) (h : Unlinked i p) where
+  pub unlinked-apart : (j : ℕ) → Unlinked i (unlinked p j)
+  unfolding linkSet unlinked linksTo
+  unlinked-apart j = go (isNumber i) h
+    where
+      go : (t : Bool) → So (not (t && getD (p .links) (i - 1) false)) → So (not (t && getD (set (p .links) (j - 1) false) (i - 1) false))
+      go false g = refl
+      go true g = let e = set-false (p .links) (j - 1) (i - 1) (not-true (getD (p .links) (i - 1) false) g) in rw e
+
+  linked-apart : (j : ℕ) → So (isNumber i) → So (isNumber j) → eqb j i ≡ false → Unlinked i (linked p j)
+  unfolding linkSet linked linksTo
+  linked-apart j a b e =
+      let x = number-bounds i a in
+      let y = number-bounds j b in
+      let n : i - 1 ≡ j - 1 → ⊥ = λ q. eqb-false j i e (omega arith) in
+      rw (getD-set-other (p .links) (j - 1) (i - 1) true false n) h
+
+-- a fresh process has no links
+pub no-links : (i : ℕ) (b : BehaviourNumber) (v : Value) → Unlinked i (fresh b v)
+unfolding linkSet linksTo
+no-links i b v = go (isNumber i) (i - 1)
+  where
+    none-at : (n k : ℕ) → getD (replicate n false) k false ≡ false
+    none-at zero k = refl
+    none-at (suc n) zero = refl
+    none-at (suc n) (suc k) = none-at n k
+
+    go : (x : Bool) (k : ℕ) → So (not (x && getD (replicate 16 false) k false))
+    go false k = refl
+    go true k = rw (none-at 16 k)
+
+-- ---- changes of a live process
+
+module _ (codes : List (List Instruction)) (i : ℕ) (p : Process) (m : Mailbox) (a : Alive codes i p m) where
+  pub live-born : isUnborn (p .stage) ≡ false
+  live-born = ap isUnborn (a .stage)
+
+  pub moved-alive : (t : ℕ) → So (leb t (length (codeOf codes (p .behaviour .0)))) → So (not (onClause (codeOf codes (p .behaviour .0)) t)) → Alive codes i (moved p t) m
+  unfolding moved linkSet linksTo
+  moved-alive t h g = record { stage = a .stage; placed = record { known = a .placed .known; within = h; off = g }; valued = a .valued; apart = a .apart; mailed = a .mailed }
+
+  pub registers-alive : (b c d e : Value) → Valued b c d e → Alive codes i (withRegisters p b c d e) m
+  unfolding linkSet linksTo
+  registers-alive b c d e v = record { stage = a .stage; placed = a .placed; valued = v; apart = a .apart; mailed = a .mailed }
+
+  pub trapped-alive : (f : Bool) → Alive codes i (trapped p f) m
+  unfolding trapped linkSet linksTo
+  trapped-alive f = record { stage = a .stage; placed = a .placed; valued = a .valued; apart = a .apart; mailed = a .mailed }
+
+  pub linked-alive : (j : ℕ) → So (isNumber i) → So (isNumber j) → eqb j i ≡ false → Alive codes i (linked p j) m
+  unfolding linked
+  linked-alive j n h e = record { stage = a .stage; placed = a .placed; valued = a .valued; apart = linked-apart i p (a .apart) j n h e; mailed = a .mailed }
+
+  pub unlinked-alive : (j : ℕ) → Alive codes i (unlinked p j) m
+  unfolding unlinked
+  unlinked-alive j = record { stage = a .stage; placed = a .placed; valued = a .valued; apart = unlinked-apart i p (a .apart) j; mailed = a .mailed }
+
+  pub mailed-alive : (b : Mailbox) → Mailed b → Alive codes i p b
+  mailed-alive b h = record { stage = a .stage; placed = a .placed; valued = a .valued; apart = a .apart; mailed = h }
+
+-- ---- a mailbox emptied
+
+-- what is sound with some mailbox is sound with an emptied one
+pub emptied-sound : (codes : List (List Instruction)) (i : ℕ) (p : Process) (m b : Mailbox) → So (standingSound codes i (standing p m)) → So (standingSound codes i (standing p (emptied b)))
+unfolding standing
+emptied-sound codes i p m b h = go (p .stage) refl h
+  where
+    go : (s : Stage) → p .stage ≡ s → So (standingSound codes i (standingIn s p m)) → So (standingSound codes i (standingIn s p (emptied b)))
+    go Unborn e g = refl
+    go Live e g = subst (λ (s : Stage). So (standingSound codes i (standingIn s p (emptied b)))) e (alive-sound codes i p (emptied b) (mailed-alive codes i p m (alive codes i p m e h) (emptied b) (emptied-mailed b)))
+    go Closing e g = g
+    go Gone e g = refl
+
+-- ---- where a live process stands
+
+-- its behaviour is one that the node has
+pub live-within : (codes : List (List Instruction)) (i : ℕ) (p : Process) (m : Mailbox) → p .stage ≡ Live → So (standingSound codes i (standing p m)) → So (leb 1 (p .behaviour .0) && leb (p .behaviour .0) (length codes))
+live-within codes i p m e h = alive codes i p m e h .placed .known

@@ -1,0 +1,71 @@
+-- A rule refuses with 20 to 27, so no play of a sound node tells 31: a play tells 31 exactly where the node is not sound. Assumes nothing.
+--   rule-told             the numbers of a rule
+--   told-31 not-told-31   31 is told by a play exactly where the node is not sound
+use mathlib.Core.Bool.{Bool, true, false}
+use mathlib.Core.List.{List, [], _∷_}
+use mathlib.Core.Path.{_≡_, refl, sym, _∙_, subst}
+use Prim.Native.Nat.{ℕ}
+use native.Mathlib.Omega.{arith}
+use borrow.Author.Tests.{ltb-false}
+use lib.Dec.{ltb}
+use lib.ListN.{length, drop}
+use Rattle.node.specs.declared.Node.{Node}
+use Rattle.rules.specs.Answers.{refused}
+use Rattle.rules.specs.Guarantees.{Stopped}
+use Rattle.rules.specs.Nodes.{Sound, sound}
+use Rattle.rules.specs.Steps.{Action, run, arrive, owner, numbered, ownerBorn, signalWaits, pairHasRoom, numberFree, decide, ready, rule, play}
+use Rattle.rules.proofs.Accepted.{step-rule}
+use Rattle.rules.proofs.Arrivals.{arrives-told}
+use Rattle.rules.proofs.Order.{sound-kept, play-is-steps}
+use Rattle.rules.proofs.Runs.{runs-told}
+use Rattle.rules.proofs.Told.{Told, Ruled, need-ruled, goOn-ruled}
+
+-- ---- a rule and a play
+
+decide-told : (n : Node) (a : Action) → Told Ruled (decide n a)
+unfolding decide
+decide-told n (run i) = runs-told _ i _
+decide-told n (arrive i j) = arrives-told i j _ _
+
+rule-told : (n : Node) (a : Action) → Told Ruled (rule n a)
+unfolding rule ready
+rule-told n a =
+    goOn-ruled (ready n a) _
+    (need-ruled (numbered a) 20 _ (omega arith, omega arith) (need-ruled (ownerBorn n a) 21 _ (omega arith, omega arith) (need-ruled (signalWaits n a) 23 _ (omega arith, omega arith)
+    (goOn-ruled (decide n a) _ (decide-told n a) (λ e. need-ruled (pairHasRoom n (owner a) (e .sent)) 26 _ (omega arith, omega arith) tt)))))
+    (λ e. need-ruled (numberFree n (e .born)) 27 _ (omega arith, omega arith) tt)
+
+-- a play that stopped at a sound node did not stop with 31
+stopped-told : (n : Node) (l : List Action) (k : ℕ) → Sound n → Stopped n l k → (k ≡ 31 → ⊥)
+stopped-told n [] k s h e = omega (arith, h, e)
+stopped-told n (a ∷ l) k s h e =
+    let r : rule n a ≡ refused k = sym (step-rule n a s) ∙ h in
+    let t : Ruled k = subst (Told Ruled) r (rule-told n a) in
+    omega (arith, t .1, e)
+
+module _ (n : Node) (l : List Action) where
+  long : ltb 4096 (length l) ≡ true → Sound n → play n l .refusal ≡ 32
+  unfolding play
+  long h s = rw (s, h)
+
+  sound-not-31 : Sound n → (play n l .refusal ≡ 31 → ⊥)
+  sound-not-31 s e = go (ltb 4096 (length l)) refl
+    where
+      go : (b : Bool) → ltb 4096 (length l) ≡ b → ⊥
+      go true h = let z = long h s in omega (arith, z, e)
+      go false h = stopped-told (play n l .node) (drop (play n l .accepted) l) (play n l .refusal) (sound-kept .1 n l s) (play-is-steps n l s (ltb-false 4096 (length l) h) .2) e
+
+  pub told-31 : play n l .refusal ≡ 31 → sound n ≡ false
+  told-31 e = go (sound n) refl
+    where
+      go : (b : Bool) → sound n ≡ b → sound n ≡ false
+      go true h = absurd (sound-not-31 h e)
+      go false h = h
+
+  pub not-told-31 : (play n l .refusal ≡ 31 → ⊥) → Sound n
+  unfolding play
+  not-told-31 e = go (sound n) refl
+    where
+      go : (b : Bool) → sound n ≡ b → Sound n
+      go true h = h
+      go false h = absurd (e (rw h))

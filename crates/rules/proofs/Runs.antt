@@ -1,0 +1,106 @@
+-- A run: what it refuses with, that arrays keep their lengths, and that it keeps what an effect must keep. Assumes nothing.
+use mathlib.Core.Bool.{not, So, _&&_}
+use mathlib.Core.List.{List, map}
+use mathlib.Core.Path.{_≡_, refl, sym, ap, subst}
+use Prim.Native.Nat.{ℕ, _-_}
+use native.Mathlib.Omega.{arith}
+use borrow.Author.Tests.{leb-false}
+use lib.Dec.{leb}
+use lib.ListN.{length, getD}
+use Rattle.node.specs.declared.Op.{Op}
+use Rattle.node.specs.declared.Process.{Process}
+use Rattle.node.specs.declared.Stage.{Stage}
+use Rattle.node.specs.declared.Stage.the-variants.{Closing, Gone}
+use Rattle.node.specs.Lists.{allOf}
+use Rattle.node.specs.Mailboxes.{sixteenSlots}
+use Rattle.node.specs.Nodes.{noOp}
+use Rattle.node.specs.Processes.{unlinked, ended, gone, sixteenLinks}
+use Rattle.node.specs.Values.{normal}
+use Rattle.rules.specs.Behaviours.{Instruction, instruction, codeSound}
+use Rattle.rules.specs.Effects.{State}
+use Rattle.rules.specs.Nodes.{standingIn, standing, linkSet, standingSound, sound}
+use Rattle.rules.specs.Run.{runsOp, closes, runs}
+use Rattle.rules.specs.Steps.{isUnborn}
+use Rattle.rules.specs.Values.{isNumber, valueSound}
+use Rattle.rules.proofs.All.{both, parts}
+use Rattle.rules.proofs.Cases.{closes-any, runs-any}
+use Rattle.rules.proofs.Full.{Fills, unlinked-full}
+use Rattle.rules.proofs.Keeps.{Good, ends-good}
+use Rattle.rules.proofs.Living.{codeOf, Unlinked, alive, unlinked-apart}
+use Rattle.rules.proofs.Ops.{At, op-shown}
+use Rattle.rules.proofs.Told.{Told, Ruled, told-more}
+
+-- ---- closing
+
+gone-stage : (p : Process) → gone p .stage ≡ Gone
+unfolding gone
+gone-stage p = refl
+
+unlinked-stage : (p : Process) (j : ℕ) {s : Stage} → p .stage ≡ s → unlinked p j .stage ≡ s
+unfolding unlinked
+unlinked-stage p j e = e
+
+closing-sound : (p : Process) (i j : ℕ) → So (valueSound (p .reason)) → Unlinked i p → So (valueSound (unlinked p j .reason) && not (linkSet (unlinked p j) i))
+unfolding unlinked
+closing-sound p i j h g = both h (unlinked-apart i p g j)
+
+module _ (codes : List (List Instruction)) (i : ℕ) (st : State) (sound : So (standingSound codes i (standing (st .process) (st .mail)))) where
+  -- what is known where the stage is
+  at-stage : (s : Stage) → st .process .stage ≡ s → So (standingSound codes i (standingIn s (st .process) (st .mail)))
+  unfolding standing
+  at-stage s e = subst (λ (s : Stage). So (standingSound codes i (standingIn s (st .process) (st .mail)))) e sound
+
+  -- a process that keeps its stage
+  in-stage : (s : Stage) (q : Process) → q .stage ≡ s → So (standingSound codes i (standingIn s q (st .mail))) → So (standingSound codes i (standing q (st .mail)))
+  unfolding standing
+  in-stage s q e h = subst (λ (s : Stage). So (standingSound codes i (standingIn s q (st .mail)))) (sym e) h
+
+  closes-good : st .process .stage ≡ Closing → Good codes i (closes st)
+  closes-good e =
+      let p = st .process in
+      let w = parts (valueSound (p .reason)) (not (linkSet p i)) (at-stage Closing e) in
+      closes-any st (Good codes i)
+      (record { sound = in-stage Gone (gone p) (gone-stage p) refl; born = ap isUnborn (gone-stage p); sent = tt; birth = tt; apart = tt })
+      (λ j n. record {
+        sound = in-stage Closing (unlinked p j) (unlinked-stage p j e) (closing-sound p i j (w .0) (w .1));
+        born = ap isUnborn (unlinked-stage p j e);
+        sent = (n, w .0);
+        birth = tt;
+        apart = tt;
+      })
+
+module _ (st : State) where
+  -- never refused
+  pub closes-told : (P : ℕ → Type 0) → Told P (closes st)
+  closes-told P = closes-any st (Told P) tt (λ j n. tt)
+
+  closes-full : So (sixteenLinks (st .process)) → So (sixteenSlots (st .mail)) → Fills (closes st)
+  unfolding gone
+  closes-full l s = closes-any st Fills (record { links = l; slots = s; birth = tt }) (λ j n. record { links = unlinked-full (st .process) j l; slots = s; birth = tt })
+
+-- ---- a run
+
+module _ (code : List Op) (i : ℕ) (st : State) where
+  pub runs-told : Told Ruled (runs code i st)
+  runs-told =
+      let o = getD code (st .process .place) noOp in
+      runs-any st (Told Ruled) code i (λ q. (omega arith, omega arith)) (λ q d. tt)
+      (λ q d. told-more (At (o .number)) Ruled (λ k e. (omega (arith, e .0), omega (arith, e .0))) (runsOp code i st o) (op-shown code i st o .told))
+      (λ q. closes-told st Ruled) (λ q. (omega arith, omega arith))
+
+  pub runs-full : So (sixteenLinks (st .process)) → So (sixteenSlots (st .mail)) → Fills (runs code i st)
+  unfolding ended
+  runs-full l s =
+      runs-any st Fills code i (λ q. tt) (λ q d. record { links = l; slots = s; birth = tt }) (λ q d. op-shown code i st (getD code (st .process .place) noOp) .full l s) (λ q. closes-full st l s) (λ q. tt)
+
+  pub runs-good : (codes : List (List Instruction)) → So (isNumber i) → So (standingSound codes i (standing (st .process) (st .mail))) →
+      (So (leb 1 (st .process .behaviour .0) && leb (st .process .behaviour .0) (length codes)) → codeOf codes (st .process .behaviour .0) ≡ map instruction code) →
+      So (allOf (codeSound (length codes)) codes) → Good codes i (runs code i st)
+  runs-good codes number sound same sounds =
+      runs-any st (Good codes i) code i (λ q. tt)
+      (λ q d. ends-good codes i st normal refl (alive codes i (st .process) (st .mail) q sound .apart))
+      (λ q d.
+      let a = alive codes i (st .process) (st .mail) q sound in
+      op-shown code i st (getD code (st .process .place) noOp) .good codes
+      (record { number = number; alive = a; same = same (a .placed .known); sounds = sounds; inside = leb-false (length code) (st .process .place) d; here = refl }) refl)
+      (closes-good codes i st sound) (λ q. tt)
