@@ -15,7 +15,6 @@ use Rattle.node.specs.declared.Process.{Process}
 use Rattle.node.specs.declared.Row.{Row}
 use Rattle.node.specs.Lists.{allOf}
 use Rattle.node.specs.Mailboxes.{sixteenSlots}
-use Rattle.node.specs.Processes.{sixteenLinks}
 use Rattle.node.specs.Rows.{fourCells}
 use Rattle.node.proofs.Mailbox.{the-type as mailbox-type}
 use Rattle.node.proofs.Node.{the-type as node-type}
@@ -30,10 +29,9 @@ each-passes T f h (x ∷ xs) (u ∷ us) g = and-eq-true-iff (f x) (allOf f xs) .
 
 pub record SizedProcess (p : Process) : Type 0 where
   pub place : p .place < 256
-  pub links : length (p .links) ≡ 16
 
 pub sized-process : (p : Process) {vs : List Val} → shadow (row process-type .own p vs) → SizedProcess p
-sized-process p g = record { place = g .1 .1 .1 .1 .0 .1; links = sym (length-map (p .links) _) ∙ g .1 .1 .1 .1 .1 .1 .1 .1 .1 .1 .0 .1 .0 .1 }
+sized-process p g = record { place = g .1 .1 .1 .1 .0 .1 }
 
 pub record SizedMailbox (m : Mailbox) : Type 0 where
   pub slots : length (m .slots) ≡ 16
@@ -53,7 +51,6 @@ pub record SizedNode (n : Node) : Type 0 where
   pub lens : length (n .lens) ≡ 8
   pub ops : length (n .ops) ≡ 256
   pub processes : length (n .processes) ≡ 16
-  pub links : So (allOf sixteenLinks (n .processes))
   pub mail : length (n .mail) ≡ 16
   pub slots : So (allOf sixteenSlots (n .mail))
   pub flight : length (n .flight) ≡ 256
@@ -64,7 +61,6 @@ sized-node n g = record {
   lens = sym (length-map (n .lens) _) ∙ g .1 .1 .1 .0 .1 .0 .1;
   ops = sym (length-map (n .ops) _) ∙ g .1 .1 .1 .1 .0 .1 .0 .1;
   processes = sym (length-map (n .processes) _) ∙ g .1 .1 .1 .1 .1 .0 .1 .0 .1;
-  links = each-passes process-type sixteenLinks (λ p vs o. eq-eqb _ _ (sized-process p o .links)) (n .processes) _ (g .1 .1 .1 .1 .1 .0 .1 .1);
   mail = sym (length-map (n .mail) _) ∙ g .1 .1 .1 .1 .1 .1 .0 .1 .0 .1;
   slots = each-passes mailbox-type sixteenSlots (λ m vs o. eq-eqb _ _ (sized-mailbox m o .slots)) (n .mail) _ (g .1 .1 .1 .1 .1 .1 .0 .1 .1);
   flight = sym (length-map (n .flight) _) ∙ g .1 .1 .1 .1 .1 .1 .1 .0 .1 .0 .1;

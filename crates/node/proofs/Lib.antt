@@ -1,4 +1,5 @@
 pub mod Lists
+pub mod Sets
 pub mod Good
 pub mod Contents
 pub mod Registers

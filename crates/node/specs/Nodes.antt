@@ -16,13 +16,14 @@ use Rattle.node.specs.Mailboxes.{emptyMailbox}
 use Rattle.node.specs.Ops.{stopOp}
 use Rattle.node.specs.Processes.{unborn}
 use Rattle.node.specs.Rows.{emptyRow}
+use Rattle.node.specs.Sets.{noPeers}
 use Rattle.node.specs.Values.{intZero}
 
 abbrev pub noOp : Op
 noOp = record { number = 0; r = 0; s = 0; target = 0; small = 0; value = intZero; process = record { 0 = 0 }; behaviour = record { 0 = 0 } }
 
 abbrev pub noProcess : Process
-noProcess = record { stage = Unborn; behaviour = record { 0 = 0 }; place = 0; r0 = intZero; r1 = intZero; r2 = intZero; r3 = intZero; trap = false; links = []; reason = intZero }
+noProcess = record { stage = Unborn; behaviour = record { 0 = 0 }; place = 0; r0 = intZero; r1 = intZero; r2 = intZero; r3 = intZero; trap = false; links = noPeers; reason = intZero }
 
 abbrev pub noMailbox : Mailbox
 noMailbox = record { slots = []; count = 0 }

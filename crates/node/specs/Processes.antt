@@ -11,26 +11,25 @@
 --   unlinked p j       j leaves the link set
 --   ended p v          the process ends with reason v, and is closing; its links are unchanged
 --   gone p             the process is gone
---   sixteenLinks p     the array of links has sixteen elements, as its type says
--- A number that is no register is read as 3, and 0 as process 1; neither occurs in a sound node.
-use mathlib.Core.Bool.{Bool, true, false, cond}
-use mathlib.Core.List.{List}
-use Prim.Native.Nat.{ℕ, _+_, _-_, min}
+-- A number that is no register is read as 3, which does not occur in a sound node.
+use mathlib.Core.Bool.{Bool, false, cond}
+use Prim.Native.Nat.{ℕ, _+_, min}
 use lib.Dec.{eqb}
-use lib.ListN.{length, getD, set, replicate}
 use Rattle.node.specs.declared.BehaviourNumber.{BehaviourNumber}
+use Rattle.node.specs.declared.Peers.{Peers}
 use Rattle.node.specs.declared.Process.{Process}
 use Rattle.node.specs.declared.Stage.{Stage}
 use Rattle.node.specs.declared.Stage.the-variants.{Unborn, Live, Closing, Gone}
 use Rattle.node.specs.declared.Value.{Value}
+use Rattle.node.specs.Sets.{noPeers, has, withPeer, withoutPeer}
 use Rattle.node.specs.Values.{intZero}
 
 abbrev pub unborn : Process
-unborn = record { stage = Unborn; behaviour = record { 0 = 0 }; place = 0; r0 = intZero; r1 = intZero; r2 = intZero; r3 = intZero; trap = false; links = replicate 16 false; reason = intZero }
+unborn = record { stage = Unborn; behaviour = record { 0 = 0 }; place = 0; r0 = intZero; r1 = intZero; r2 = intZero; r3 = intZero; trap = false; links = noPeers; reason = intZero }
 
 -- "place 0, its r0 the spawner's number, other registers i0, no links, trap 0"
 abbrev pub fresh : BehaviourNumber → Value → Process
-fresh b v = record { stage = Live; behaviour = b; place = 0; r0 = v; r1 = intZero; r2 = intZero; r3 = intZero; trap = false; links = replicate 16 false; reason = intZero }
+fresh b v = record { stage = Live; behaviour = b; place = 0; r0 = v; r1 = intZero; r2 = intZero; r3 = intZero; trap = false; links = noPeers; reason = intZero }
 
 -- one field anew, the others as they are
 abbrev pub withPlace : Process → ℕ → Process
@@ -42,7 +41,7 @@ withRegisters p a b c d = record { stage = p .stage; behaviour = p .behaviour; p
 abbrev pub withTrap : Process → Bool → Process
 withTrap p f = record { stage = p .stage; behaviour = p .behaviour; place = p .place; r0 = p .r0; r1 = p .r1; r2 = p .r2; r3 = p .r3; trap = f; links = p .links; reason = p .reason }
 
-abbrev pub withLinks : Process → List Bool → Process
+abbrev pub withLinks : Process → Peers → Process
 withLinks p l = record { stage = p .stage; behaviour = p .behaviour; place = p .place; r0 = p .r0; r1 = p .r1; r2 = p .r2; r3 = p .r3; trap = p .trap; links = l; reason = p .reason }
 
 abbrev pub withStage : Process → Stage → Value → Process
@@ -69,19 +68,16 @@ unfoldable pub trapped : Process → Bool → Process
 trapped p f = withTrap p f
 
 unfoldable pub linksTo : Process → ℕ → Bool
-linksTo p j = getD (p .links) (j - 1) false
+linksTo p j = has (p .links) j
 
 unfoldable pub linked : Process → ℕ → Process
-linked p j = withLinks p (set (p .links) (j - 1) true)
+linked p j = withLinks p (withPeer (p .links) j)
 
 unfoldable pub unlinked : Process → ℕ → Process
-unlinked p j = withLinks p (set (p .links) (j - 1) false)
+unlinked p j = withLinks p (withoutPeer (p .links) j)
 
 unfoldable pub ended : Process → Value → Process
 ended p v = withStage p Closing v
 
 unfoldable pub gone : Process → Process
 gone p = withStage p Gone (p .reason)
-
-abbrev pub sixteenLinks : Process → Bool
-sixteenLinks p = eqb (length (p .links)) 16

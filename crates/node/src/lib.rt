@@ -1,9 +1,10 @@
 // The types of a node, the constructors of fresh processes and of the blank node, what a step makes of a record, and the tables of ops.
 ghost use mathlib.Core.Path.{_≡_};
 ghost use Prim.Native.Nat.{_+_, _-_, min};
-ghost use lib.ListN.{getD, set};
+ghost use lib.ListN.{getD};
 ghost use Rattle.node.specs.Ops.{operandCounts, operandKind, stopOp};
 ghost use Rattle.node.specs.Processes.{unborn, fresh, register, withRegister, moved, advanced, trapped, linksTo, linked, unlinked, ended, gone, withRegisters, withLinks, withStage};
+ghost use Rattle.node.specs.Sets.{noPeers, has, withPeer, withoutPeer, lowestPeer};
 ghost use Rattle.node.specs.Mailboxes.{noMessage, emptyMailbox, joined, without, emptied};
 ghost use Rattle.node.specs.Rows.{noSignal, emptyRow, oldest, pushed, popped};
 ghost use Rattle.node.specs.Nodes.{blankNode, noOp};
@@ -63,6 +64,9 @@ pub struct Op {
     pub value: Value,
 }
 
+// A set of processes as one number: process k + 1 is in it where bit k is set.
+pub struct Peers(pub u16);
+
 // Closing is an exiting process that has still to tell its links.
 pub enum Stage {
     Unborn,
@@ -77,13 +81,13 @@ pub struct Process {
     pub behaviour: BehaviourNumber,
     // The program counter.
     pub place: u8,
+    // Here it fills a gap: fields lie in memory as they are declared.
+    pub trap: bool,
     pub r0: Value,
     pub r1: Value,
     pub r2: Value,
     pub r3: Value,
-    pub trap: bool,
-    // Whether process k + 1 is a link stands at k.
-    pub links: [bool; 16],
+    pub links: Peers,
     pub reason: Value,
 }
 
@@ -261,6 +265,67 @@ impl BehaviourNumber {
     }
 }
 
+impl Peers {
+    pub fn none() -> Peers
+        ensures { λ r. ⌜ r ≡ noPeers ⌝ }
+    {
+        Peers(0)
+    }
+
+    // Whether process j is in the set; number 0 is read as 1, and none above 16 is.
+    pub fn has(self, j: ProcessNumber) -> bool
+        ensures { λ r. ⌜ r ≡ has self (j .0) ⌝ }
+    {
+        let k = j.index();
+        if k < 16 {
+            return (self.0 >> k) % 2 == 1;
+        }
+        false
+    }
+
+    // Process j joins.
+    pub fn with(self, j: ProcessNumber) -> Peers
+        ensures { λ r. ⌜ r ≡ withPeer self (j .0) ⌝ }
+    {
+        let k = j.index();
+        if 16 <= k {
+            return self;
+        }
+        if (self.0 >> k) % 2 == 1 {
+            return self;
+        }
+        Peers(self.0 + (1 << k))
+    }
+
+    // Process j leaves.
+    pub fn without(self, j: ProcessNumber) -> Peers
+        ensures { λ r. ⌜ r ≡ withoutPeer self (j .0) ⌝ }
+    {
+        let k = j.index();
+        if 16 <= k {
+            return self;
+        }
+        if (self.0 >> k) % 2 == 1 {
+            return Peers(self.0 - (1 << k));
+        }
+        self
+    }
+
+    // The lowest number in the set; 0 where it is empty.
+    pub fn lowest(self) -> ProcessNumber
+        ensures { λ r. ⌜ r .0 ≡ lowestPeer self ⌝ }
+    {
+        let mut k: u8 = 0;
+        while k < 16 {
+            if (self.0 >> k) % 2 == 1 {
+                return ProcessNumber(k + 1);
+            }
+            k += 1;
+        }
+        ProcessNumber(0)
+    }
+}
+
 impl Op {
     // What is read past the ops: all zero.
     pub fn blank() -> Op
@@ -308,7 +373,7 @@ impl Process {
             r2: Value::ZERO,
             r3: Value::ZERO,
             trap: false,
-            links: [false; 16],
+            links: Peers::none(),
             reason: Value::ZERO,
         }
     }
@@ -326,7 +391,7 @@ impl Process {
             r2: Value::ZERO,
             r3: Value::ZERO,
             trap: false,
-            links: [false; 16],
+            links: Peers::none(),
             reason: Value::ZERO,
         }
     }
@@ -406,34 +471,28 @@ impl Process {
     pub fn links_to(self, j: ProcessNumber) -> bool
         ensures { λ r. ⌜ r ≡ linksTo self (j .0) ⌝ }
     {
-        let k = j.index();
-        if k < 16 {
-            return self.links[k];
-        }
-        false
+        let links = self.links;
+        links.has(j)
     }
 
     pub fn linked(self, j: ProcessNumber) -> Process
         ensures { λ p. ⌜ p ≡ linked self (j .0) ⌝ }
     {
-        self.with_link(j, true)
+        let links = self.links;
+        self.with_links(links.with(j))
     }
 
     pub fn unlinked(self, j: ProcessNumber) -> Process
         ensures { λ p. ⌜ p ≡ unlinked self (j .0) ⌝ }
     {
-        self.with_link(j, false)
+        let links = self.links;
+        self.with_links(links.without(j))
     }
 
-    // Whether j is a link becomes b.
-    fn with_link(mut self, j: ProcessNumber, b: bool) -> Process
-        ensures { λ p. ⌜ p ≡ withLinks self (set (self .links) (j .0 - 1) b) ⌝ }
+    fn with_links(mut self, links: Peers) -> Process
+        ensures { λ p. ⌜ p ≡ withLinks self links ⌝ }
     {
-        let k = j.index();
-        if k < 16 {
-            self.links[k] = b;
-            return self;
-        }
+        self.links = links;
         self
     }
 

@@ -14,7 +14,7 @@ use Rattle.node.specs.declared.Signal.{Signal}
 use Rattle.node.specs.declared.Signal.the-variants.{Msg, Exit, Link, Unlink}
 use Rattle.node.specs.declared.Value.{Value}
 use Rattle.node.specs.Mailboxes.{joined, sixteenSlots}
-use Rattle.node.specs.Processes.{linked, unlinked, ended, sixteenLinks}
+use Rattle.node.specs.Processes.{linked, unlinked, ended}
 use Rattle.node.specs.Values.{killed}
 use Rattle.rules.specs.Answers.{Answer}
 use Rattle.rules.specs.Arrive.{arrives, takes, exits, joinsWith, notes}
@@ -25,8 +25,7 @@ use Rattle.rules.specs.Steps.{isUnborn}
 use Rattle.rules.specs.Values.{isNumber, valueSound, messageSound}
 use Rattle.rules.proofs.All.{both}
 use Rattle.rules.proofs.Cases.{joins-any, exits-any, arrives-any}
-use Rattle.rules.proofs.Full.{Fills, linked-full, unlinked-full}
-use Rattle.rules.proofs.Keeps.{Good, becomes-alive, ends-good}
+use Rattle.rules.proofs.Keeps.{Fills, Good, becomes-alive, ends-good}
 use Rattle.rules.proofs.Living.{Alive, alive, alive-sound, live-born, joined-mailed, linked-alive, unlinked-alive, mailed-alive}
 use Rattle.rules.proofs.Told.{Told, Ruled}
 
@@ -41,22 +40,22 @@ module _ (i j : ℕ) (st : State) where
   -- of answer x to signal y: which numbers it is refused with; arrays keep their lengths; what an effect must keep is kept
   pub record Heard (y : Signal) (x : Answer Effect) : Type 0 where
     pub told : Told Ruled x
-    pub full : So (sixteenLinks (st .process)) → So (sixteenSlots (st .mail)) → Fills x
+    pub full : So (sixteenSlots (st .mail)) → Fills x
     pub good : (codes : List (List Instruction)) → Hears codes y → Good codes i x
 
-  becomes-heard : (y : Signal) (q : Process) → (So (sixteenLinks (st .process)) → So (sixteenLinks q)) → ((codes : List (List Instruction)) → Hears codes y → Alive codes i q (st .mail)) → Heard y (becomes st q)
-  becomes-heard y q f a = record { told = tt; full = λ l s. record { links = f l; slots = s; birth = tt }; good = λ codes g. becomes-alive codes i st q (a codes g) }
+  becomes-heard : (y : Signal) (q : Process) → ((codes : List (List Instruction)) → Hears codes y → Alive codes i q (st .mail)) → Heard y (becomes st q)
+  becomes-heard y q a = record { told = tt; full = λ s. s; good = λ codes g. becomes-alive codes i st q (a codes g) }
 
   ends-heard : (y : Signal) (v : Value) → ((codes : List (List Instruction)) → Hears codes y → So (valueSound v)) → Heard y (ends st v)
   unfolding ended
-  ends-heard y v h = record { told = tt; full = λ l s. record { links = l; slots = s; birth = tt }; good = λ codes g. ends-good codes i st v (h codes g) (g .alive .apart) }
+  ends-heard y v h = record { told = tt; full = λ s. s; good = λ codes g. ends-good codes i st v (h codes g) (g .alive .apart) }
 
-  joins-heard : (y : Signal) (q : Process) (x : Message) → (So (sixteenLinks (st .process)) → So (sixteenLinks q)) → ((codes : List (List Instruction)) → Hears codes y → Alive codes i q (st .mail)) →
+  joins-heard : (y : Signal) (q : Process) (x : Message) → ((codes : List (List Instruction)) → Hears codes y → Alive codes i q (st .mail)) →
       ((codes : List (List Instruction)) → Hears codes y → So (messageSound x)) → Heard y (joinsWith st q x)
   unfolding joined
-  joins-heard y q x f a h = record {
+  joins-heard y q x a h = record {
     told = joins-any st (Told Ruled) q x (omega arith, omega arith) (λ e. tt);
-    full = λ l s. joins-any st Fills q x tt (λ e. record { links = f l; slots = rw (length-set (st .mail .slots) (st .mail .count) (record { message = x })) s; birth = tt });
+    full = λ s. joins-any st Fills q x tt (λ e. rw (length-set (st .mail .slots) (st .mail .count) (record { message = x })) s);
     good = λ codes g. joins-any st (Good codes i) q x tt (λ e.
         let m = joined (st .mail) x in
         let next = mailed-alive codes i q (st .mail) (a codes g) m (joined-mailed (st .mail) (g .alive .mailed) x (h codes g) (ltb-true (st .mail .count) 16 e)) in
@@ -69,32 +68,30 @@ module _ (i j : ℕ) (st : State) where
   unlinked-heard codes y g = unlinked-alive codes i (st .process) (st .mail) (g .alive) j
 
   notes-heard : (v : Value) (b : Bool) → Heard (Exit v b) (notes j st v b)
-  notes-heard v true = joins-heard (Exit v true) (unlinked (st .process) j) (Note (record { 0 = j }) v) (unlinked-full (st .process) j) (λ codes g. unlinked-heard codes (Exit v true) g) (λ codes g. both (g .from) (g .sound))
-  notes-heard v false = joins-heard (Exit v false) (st .process) (Note (record { 0 = j }) v) (λ l. l) (λ codes g. g .alive) (λ codes g. both (g .from) (g .sound))
+  notes-heard v true = joins-heard (Exit v true) (unlinked (st .process) j) (Note (record { 0 = j }) v) (λ codes g. unlinked-heard codes (Exit v true) g) (λ codes g. both (g .from) (g .sound))
+  notes-heard v false = joins-heard (Exit v false) (st .process) (Note (record { 0 = j }) v) (λ codes g. g .alive) (λ codes g. both (g .from) (g .sound))
 
   exits-heard : (v : Value) (b : Bool) → Heard (Exit v b) (exits i j st v b)
   exits-heard v b =
       exits-any st (Heard (Exit v b)) i j v b
-      (becomes-heard (Exit v b) (st .process) (λ l. l) (λ codes g. g .alive))
+      (becomes-heard (Exit v b) (st .process) (λ codes g. g .alive))
       (ends-heard (Exit v b) killed (λ codes g. refl))
       (notes-heard v b)
       (ends-heard (Exit v b) v (λ codes g. g .sound))
 
   takes-heard : (y : Signal) → Heard y (takes i j st y)
-  takes-heard (Msg v) = joins-heard (Msg v) (st .process) (Plain v) (λ l. l) (λ codes g. g .alive) (λ codes g. g .sound)
+  takes-heard (Msg v) = joins-heard (Msg v) (st .process) (Plain v) (λ codes g. g .alive) (λ codes g. g .sound)
   takes-heard (Exit v b) = exits-heard v b
-  takes-heard Link = becomes-heard Link (linked (st .process) j) (linked-full (st .process) j) (λ codes g. linked-alive codes i (st .process) (st .mail) (g .alive) j (g .number) (g .from) (not-true (eqb j i) (g .sound)))
-  takes-heard Unlink = becomes-heard Unlink (unlinked (st .process) j) (unlinked-full (st .process) j) (λ codes g. unlinked-heard codes Unlink g)
+  takes-heard Link = becomes-heard Link (linked (st .process) j) (λ codes g. linked-alive codes i (st .process) (st .mail) (g .alive) j (g .number) (g .from) (not-true (eqb j i) (g .sound)))
+  takes-heard Unlink = becomes-heard Unlink (unlinked (st .process) j) (λ codes g. unlinked-heard codes Unlink g)
 
   -- ---- an arrival
 
   pub arrives-told : (y : Signal) → Told Ruled (arrives i j st y)
   arrives-told y = arrives-any st (Told Ruled) i j y (λ q. (omega arith, omega arith)) (λ q. takes-heard y .told) (λ q. tt) (λ q. tt)
 
-  pub arrives-full : (y : Signal) → So (sixteenLinks (st .process)) → So (sixteenSlots (st .mail)) → Fills (arrives i j st y)
-  arrives-full y l s =
-      let same : Fills (becomes st (st .process)) = record { links = l; slots = s; birth = tt } in
-      arrives-any st Fills i j y (λ q. tt) (λ q. takes-heard y .full l s) (λ q. same) (λ q. same)
+  pub arrives-full : (y : Signal) → So (sixteenSlots (st .mail)) → Fills (arrives i j st y)
+  arrives-full y s = arrives-any st Fills i j y (λ q. tt) (λ q. takes-heard y .full s) (λ q. s) (λ q. s)
 
   pub arrives-good : (codes : List (List Instruction)) → So (isNumber i) → So (standingSound codes i (standing (st .process) (st .mail))) → So (isNumber j) → (y : Signal) → So (signalSound j i y) → Good codes i (arrives i j st y)
   arrives-good codes number sound from y h =

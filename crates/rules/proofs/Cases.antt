@@ -1,10 +1,12 @@
 -- The rules by cases, over any statement on an answer: what holds of each answer that a rule can give holds of the answer that it gives. So
 -- what is to be shown of every op or signal is said of each case once. Assumes nothing.
 use mathlib.Core.Bool.{Bool, true, false, cond, not, So, _&&_}
-use mathlib.Core.List.{List, [], _∷_}
+use mathlib.Core.List.{List}
 use mathlib.Core.Option.{Option, none, some}
 use mathlib.Core.Path.{_≡_, refl}
-use Prim.Native.Nat.{ℕ, _+_}
+use Prim.Native.Nat.{ℕ, zero, suc, _+_}
+use native.Mathlib.Omega.{arith}
+use borrow.Author.Tests.{le-leb}
 use lib.Dec.{leb, ltb, eqb}
 use lib.IntN.{ℤ, _+ℤ_}
 use lib.ListN.{length, getD, take, drop}
@@ -19,18 +21,19 @@ use Rattle.node.specs.declared.Stage.{Stage}
 use Rattle.node.specs.declared.Stage.the-variants.{Unborn, Live, Closing, Gone}
 use Rattle.node.specs.declared.Value.{Value}
 use Rattle.node.specs.declared.Value.the-variants.{Int, Atom, Pid}
-use Rattle.node.specs.Lists.{allOf}
 use Rattle.node.specs.Mailboxes.{messages, joined}
 use Rattle.node.specs.Nodes.{noOp}
 use Rattle.node.specs.Processes.{moved, advanced, linksTo, unlinked, gone}
+use Rattle.node.specs.Sets.{lowestPeer}
 use Rattle.node.specs.Values.{normal, kill, killed, badarg, badarith}
+use Rattle.node.proofs.Sets.{lowest-number}
 use Rattle.rules.specs.Answers.{Answer, refused, done, need, mailboxFull, noFit, ownerUnborn, ownerGone}
 use Rattle.rules.specs.Arrive.{joinsWith, notes, exits, takes, arrivesIn, arrives}
 use Rattle.rules.specs.Effects.{State, Effect, becomes, ends, sends}
 use Rattle.rules.specs.Receive.{Fit, search, receivesFit, receives}
-use Rattle.rules.specs.Run.{setsRegister, jumpsIf, adds, compares, toProcess, toOther, runsOp, lowest, closesTo, closes, runsLive, runsIn, runs}
-use Rattle.rules.specs.Values.{numbers, isNumber, fitsInt, sameValue}
-use Rattle.rules.proofs.All.{parts}
+use Rattle.rules.specs.Run.{setsRegister, jumpsIf, adds, compares, toProcess, toOther, runsOp, closesTo, closes, runsLive, runsIn, runs}
+use Rattle.rules.specs.Values.{isNumber, fitsInt, sameValue}
+use Rattle.rules.proofs.All.{both}
 
 module _ (st : State) (P : Answer Effect → Type 0) where
   -- ---- the ops
@@ -81,18 +84,13 @@ module _ (st : State) (P : Answer Effect → Type 0) where
 
   -- ---- a run
 
-  -- the first of some numbers that passes a test is one of them
-  lowest-any : (Q : Option ℕ → Type 0) (f : ℕ → Bool) → Q none → ((j : ℕ) → So (isNumber j) → Q (some j)) → (l : List ℕ) → So (allOf isNumber l) → Q (lowest f l)
-  lowest-any Q f g h [] a = g
-  lowest-any Q f g h (k ∷ l) a = let w = parts (isNumber k) (allOf isNumber l) a in go (f k) (h k (w .0)) (lowest-any Q f g h l (w .1))
-    where
-      go : (b : Bool) → Q (some k) → Q (lowest f l) → Q (cond b (some k) (lowest f l))
-      go true x y = x
-      go false x y = y
-
   pub closes-any : P (becomes st (gone (st .process))) → ((j : ℕ) → So (isNumber j) → P (sends st (unlinked (st .process) j) j (Exit (st .process .reason) true))) → P (closes st)
   unfolding closes isNumber
-  closes-any g h = lowest-any (λ o. P (closesTo st o)) (linksTo (st .process)) g h numbers refl
+  closes-any g h = go (lowestPeer (st .process .links)) refl
+    where
+      go : (j : ℕ) → lowestPeer (st .process .links) ≡ j → P (closesTo st j)
+      go zero e = g
+      go (suc j) e = let b = lowest-number (st .process .links) j e in h (suc j) (both (le-leb 1 (suc j) (omega arith)) (le-leb (suc j) 16 b))
 
   pub runs-any : (code : List Op) (i : ℕ) →
       (st .process .stage ≡ Unborn → P (refused ownerUnborn)) →

@@ -8,12 +8,12 @@ use Rattle.node.specs.declared.Mailbox.{Mailbox}
 use Rattle.node.specs.declared.Process.{Process}
 use Rattle.node.specs.declared.Signal.{Signal}
 use Rattle.node.specs.declared.Value.{Value}
-use Rattle.node.specs.Mailboxes.{emptied}
-use Rattle.node.specs.Processes.{linksTo, ended}
+use Rattle.node.specs.Mailboxes.{sixteenSlots, emptied}
+use Rattle.node.specs.Processes.{ended}
 use Rattle.rules.specs.Answers.{Answer, refused, done}
 use Rattle.rules.specs.Behaviours.{Instruction}
 use Rattle.rules.specs.Effects.{State, Effect, Sending, Birth, becomes, ends, sends}
-use Rattle.rules.specs.Nodes.{standing, linkSet, standingSound, signalSound}
+use Rattle.rules.specs.Nodes.{standing, standingSound, signalSound}
 use Rattle.rules.specs.Steps.{isUnborn}
 use Rattle.rules.specs.Values.{isNumber, valueSound}
 use Rattle.rules.proofs.All.{both}
@@ -53,6 +53,11 @@ abbrev pub Good : List (List Instruction) → ℕ → Answer Effect → Type 0
 Good codes i (refused k) = Unit {0}
 Good codes i (done e) = Keeps codes i e
 
+-- and an effect's mailbox has as many slots as its type says
+abbrev pub Fills : Answer Effect → Type 0
+Fills (refused k) = Unit {0}
+Fills (done e) = So (sixteenSlots (e .mail))
+
 -- only the process changes
 pub becomes-alive : (codes : List (List Instruction)) (i : ℕ) (st : State) (q : Process) → Alive codes i q (st .mail) → Good codes i (becomes st q)
 becomes-alive codes i st q a = record { sound = alive-sound codes i q (st .mail) a; born = live-born codes i q (st .mail) a; sent = tt; birth = tt; apart = tt }
@@ -62,5 +67,5 @@ sends-alive codes i st q j x a n h = record { sound = alive-sound codes i q (st 
 
 -- an ended process keeps its reason and its links
 pub ends-good : (codes : List (List Instruction)) (i : ℕ) (st : State) (v : Value) → So (valueSound v) → Unlinked i (st .process) → Good codes i (ends st v)
-unfolding standing ended linkSet linksTo
+unfolding standing ended
 ends-good codes i st v h a = record { sound = both h a; born = refl; sent = tt; birth = tt; apart = tt }

@@ -20,7 +20,6 @@ use Rattle.node.specs.declared.Signal.{Signal}
 use Rattle.node.specs.Lists.{firsts, rising, allFrom, allOf}
 use Rattle.node.specs.Mailboxes.{emptied, sixteenSlots}
 use Rattle.node.specs.Nodes.{noProcess, noMailbox, noRow, pair}
-use Rattle.node.specs.Processes.{sixteenLinks}
 use Rattle.node.specs.Rows.{noSignal, signals, pushed, popped}
 use Rattle.node.proofs.Lists.{firsts-length, map-rising-at, map-rising-length}
 use Rattle.rules.specs.Answers.{Answer, refused, done}
@@ -35,8 +34,7 @@ use Rattle.rules.proofs.Accepted.{Act, step-goes}
 use Rattle.rules.proofs.All.{both, parts, allOf-at, allOf-any, allOf-map, made-all, all-made}
 use Rattle.rules.proofs.Firsts.{firsts-joined, firsts-left, set-read, at-read}
 use Rattle.rules.proofs.Arrivals.{arrives-full, arrives-good}
-use Rattle.rules.proofs.Full.{Full, Fills}
-use Rattle.rules.proofs.Keeps.{SentOk, BornOk, Keeps, Good}
+use Rattle.rules.proofs.Keeps.{Fills, SentOk, BornOk, Keeps, Good}
 use Rattle.rules.proofs.Living.{emptied-sound}
 use Rattle.rules.proofs.Runs.{runs-full, runs-good}
 use Rattle.rules.proofs.Records.{number-bounds}
@@ -268,18 +266,17 @@ decided-keeps n (arrive i j) e p m w d =
 pub act-keeps : (n : Node) (a : Action) (e : Effect) → Parts n → Act n a e → Keeps (behavioursOf n) (owner a) e
 act-keeps n a e p t = decided-keeps n a e p (t .numbers) (t .waits) (t .decided)
 
--- and its arrays are as long as those of the owner
-module _ (n : Node) (z : Sized n) (i : ℕ) (h : So (isNumber i)) where
-  own-links : So (sixteenLinks (process n i))
-  own-links = let x = number-bounds i h in allOf-at sixteenLinks noProcess (n .processes) (z .links) (i - 1) (omega (arith, z .processes))
-
-  own-slots : So (sixteenSlots (mailbox n i))
-  own-slots = let x = number-bounds i h in allOf-at sixteenSlots noMailbox (n .mail) (z .slots) (i - 1) (omega (arith, z .mail))
-
-act-full : (n : Node) (a : Action) (e : Effect) → Sized n → Act n a e → Full e
+-- and its mailbox has the slots of the owner's
+act-full : (n : Node) (a : Action) (e : Effect) → Sized n → Act n a e → So (sixteenSlots (e .mail))
 unfolding decide
-act-full n (run i) e z t = let h = owner-number (run i) (t .numbers) in subst Fills (t .decided) (runs-full _ i (state n i) (own-links n z i h) (own-slots n z i h))
-act-full n (arrive i j) e z t = let h = owner-number (arrive i j) (t .numbers) in subst Fills (t .decided) (arrives-full i j (state n i) _ (own-links n z i h) (own-slots n z i h))
+act-full n a e z t = go a (t .decided) (number-bounds (owner a) (owner-number a (t .numbers)))
+  where
+    own : (i : ℕ) → (1 ≤ i) × (i ≤ 16) → So (sixteenSlots (mailbox n i))
+    own i h = allOf-at sixteenSlots noMailbox (n .mail) (z .slots) (i - 1) (omega (arith, z .mail, h .0, h .1))
+
+    go : (b : Action) → decide n b ≡ done e → (1 ≤ owner b) × (owner b ≤ 16) → So (sixteenSlots (e .mail))
+    go (run i) d h = subst Fills d (runs-full _ i (state n i) (own i h))
+    go (arrive i j) d h = subst Fills d (arrives-full i j (state n i) _ (own i h))
 
 pub commit-sound : (n : Node) (a : Action) (e : Effect) → Parts n → Act n a e → Parts (commit n a e)
 unfolding commit behavioursOf code

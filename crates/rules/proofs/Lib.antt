@@ -6,7 +6,6 @@ pub mod Keeps
 pub mod Places
 pub mod Cases
 pub mod Told
-pub mod Full
 pub mod Ops
 pub mod Runs
 pub mod Arrivals

@@ -3,15 +3,14 @@
 use mathlib.Core.Bool.{Bool, true, false, not, So, cond, _&&_}
 use mathlib.Core.List.{List, []}
 use mathlib.Core.Path.{_≡_, refl, sym, _∙_, ap, subst}
-use Prim.Native.Nat.{ℕ, zero, suc, _+_, _-_, _≤_, _<_, min}
+use Prim.Native.Nat.{ℕ, suc, _+_, _-_, _≤_, _<_, min}
 use native.Mathlib.Omega.{arith}
 use borrow.Author.Tests.{leb-true, le-leb, eqb-false, not-true}
 use lib.Dec.{leb, eqb}
-use lib.ListN.{length, getD, set, replicate, length-map}
-use lib.Seq.{getD-set-other}
-use Rattle.node.specs.declared.BehaviourNumber.{BehaviourNumber}
+use lib.ListN.{length, getD, length-map}
 use Rattle.node.specs.declared.Mailbox.{Mailbox}
 use Rattle.node.specs.declared.Message.{Message}
+use Rattle.node.specs.declared.Peers.{Peers}
 use Rattle.node.specs.declared.Process.{Process}
 use Rattle.node.specs.declared.Slot.{Slot}
 use Rattle.node.specs.declared.Stage.{Stage}
@@ -19,14 +18,16 @@ use Rattle.node.specs.declared.Stage.the-variants.{Unborn, Live, Closing, Gone}
 use Rattle.node.specs.declared.Value.{Value}
 use Rattle.node.specs.Lists.{firsts, allOf}
 use Rattle.node.specs.Mailboxes.{noMessage, messages, joined, without, emptied}
-use Rattle.node.specs.Processes.{fresh, register, withRegister, withRegisters, moved, trapped, linksTo, linked, unlinked}
+use Rattle.node.specs.Processes.{register, withRegister, withRegisters, moved, trapped, linked, unlinked}
+use Rattle.node.specs.Sets.{noPeers, has, withPeer, withoutPeer}
+use Rattle.node.proofs.Sets.{has-none, has-with-other, has-without-false}
 use Rattle.node.proofs.Lists.{firsts-length}
 use Rattle.rules.specs.Behaviours.{Instruction, onClause}
-use Rattle.rules.specs.Nodes.{standingIn, standing, linkSet, runningSound, standingSound}
+use Rattle.rules.specs.Nodes.{standingIn, standing, setOf, runningSound, standingSound}
 use Rattle.rules.specs.Steps.{isUnborn}
 use Rattle.rules.specs.Values.{isNumber, fitsInt, valueSound, messageSound}
 use Rattle.rules.proofs.All.{both, parts, allOf-map}
-use Rattle.rules.proofs.Firsts.{firsts-joined, firsts-left, set-false}
+use Rattle.rules.proofs.Firsts.{firsts-joined, firsts-left}
 use Rattle.rules.proofs.Records.{number-bounds}
 
 -- ---- a live process
@@ -46,8 +47,12 @@ pub record Valued (a b c d : Value) : Type 0 where
   pub v2 : So (valueSound c)
   pub v3 : So (valueSound d)
 
+-- process i is not in the set
+abbrev pub Apart : ℕ → Peers → Type 0
+Apart i s = So (not (setOf s i))
+
 abbrev pub Unlinked : ℕ → Process → Type 0
-Unlinked i p = So (not (linkSet p i))
+Unlinked i p = Apart i (p .links)
 
 pub record Mailed (m : Mailbox) : Type 0 where
   pub few : So (leb (length (messages m)) 16)
@@ -156,38 +161,32 @@ module _ (p : Process) (v : Valued (p .r0) (p .r1) (p .r2) (p .r3)) (Q : Process
       go false false true = h (p .r0) (p .r1) x (p .r3) (record { v0 = v .v0; v1 = v .v1; v2 = g; v3 = v .v3 })
       go false false false = h (p .r0) (p .r1) (p .r2) x (record { v0 = v .v0; v1 = v .v1; v2 = v .v2; v3 = g })
 
--- ---- links
+-- ---- sets
 
-module _ (i : ℕ) (p : Process) (h : Unlinked i p) where
-  pub unlinked-apart : (j : ℕ) → Unlinked i (unlinked p j)
-  unfolding linkSet unlinked linksTo
-  unlinked-apart j = go (isNumber i) h
+module _ (i : ℕ) (s : Peers) (h : Apart i s) where
+  pub without-apart : (j : ℕ) → Apart i (withoutPeer s j)
+  unfolding setOf
+  without-apart j = go (isNumber i) h
     where
-      go : (t : Bool) → So (not (t && getD (p .links) (i - 1) false)) → So (not (t && getD (set (p .links) (j - 1) false) (i - 1) false))
+      go : (t : Bool) → So (not (t && has s i)) → So (not (t && has (withoutPeer s j) i))
       go false g = refl
-      go true g = let e = set-false (p .links) (j - 1) (i - 1) (not-true (getD (p .links) (i - 1) false) g) in rw e
+      go true g = let e = has-without-false s j i (not-true (has s i) g) in rw e
 
-  linked-apart : (j : ℕ) → So (isNumber i) → So (isNumber j) → eqb j i ≡ false → Unlinked i (linked p j)
-  unfolding linkSet linked linksTo
-  linked-apart j a b e =
+  pub with-apart : (j : ℕ) → So (isNumber i) → So (isNumber j) → eqb j i ≡ false → Apart i (withPeer s j)
+  unfolding setOf
+  with-apart j a b e =
       let x = number-bounds i a in
       let y = number-bounds j b in
       let n : i - 1 ≡ j - 1 → ⊥ = λ q. eqb-false j i e (omega arith) in
-      rw (getD-set-other (p .links) (j - 1) (i - 1) true false n) h
+      rw (has-with-other s j i n) h
 
--- a fresh process has no links
-pub no-links : (i : ℕ) (b : BehaviourNumber) (v : Value) → Unlinked i (fresh b v)
-unfolding linkSet linksTo
-no-links i b v = go (isNumber i) (i - 1)
+pub none-apart : (i : ℕ) → Apart i noPeers
+unfolding setOf
+none-apart i = go (isNumber i)
   where
-    none-at : (n k : ℕ) → getD (replicate n false) k false ≡ false
-    none-at zero k = refl
-    none-at (suc n) zero = refl
-    none-at (suc n) (suc k) = none-at n k
-
-    go : (x : Bool) (k : ℕ) → So (not (x && getD (replicate 16 false) k false))
-    go false k = refl
-    go true k = rw (none-at 16 k)
+    go : (t : Bool) → So (not (t && has noPeers i))
+    go false = refl
+    go true = rw (has-none i)
 
 -- ---- changes of a live process
 
@@ -196,24 +195,23 @@ module _ (codes : List (List Instruction)) (i : ℕ) (p : Process) (m : Mailbox)
   live-born = ap isUnborn (a .stage)
 
   pub moved-alive : (t : ℕ) → So (leb t (length (codeOf codes (p .behaviour .0)))) → So (not (onClause (codeOf codes (p .behaviour .0)) t)) → Alive codes i (moved p t) m
-  unfolding moved linkSet linksTo
+  unfolding moved
   moved-alive t h g = record { stage = a .stage; placed = record { known = a .placed .known; within = h; off = g }; valued = a .valued; apart = a .apart; mailed = a .mailed }
 
   pub registers-alive : (b c d e : Value) → Valued b c d e → Alive codes i (withRegisters p b c d e) m
-  unfolding linkSet linksTo
   registers-alive b c d e v = record { stage = a .stage; placed = a .placed; valued = v; apart = a .apart; mailed = a .mailed }
 
   pub trapped-alive : (f : Bool) → Alive codes i (trapped p f) m
-  unfolding trapped linkSet linksTo
+  unfolding trapped
   trapped-alive f = record { stage = a .stage; placed = a .placed; valued = a .valued; apart = a .apart; mailed = a .mailed }
 
   pub linked-alive : (j : ℕ) → So (isNumber i) → So (isNumber j) → eqb j i ≡ false → Alive codes i (linked p j) m
   unfolding linked
-  linked-alive j n h e = record { stage = a .stage; placed = a .placed; valued = a .valued; apart = linked-apart i p (a .apart) j n h e; mailed = a .mailed }
+  linked-alive j n h e = record { stage = a .stage; placed = a .placed; valued = a .valued; apart = with-apart i (p .links) (a .apart) j n h e; mailed = a .mailed }
 
   pub unlinked-alive : (j : ℕ) → Alive codes i (unlinked p j) m
   unfolding unlinked
-  unlinked-alive j = record { stage = a .stage; placed = a .placed; valued = a .valued; apart = unlinked-apart i p (a .apart) j; mailed = a .mailed }
+  unlinked-alive j = record { stage = a .stage; placed = a .placed; valued = a .valued; apart = without-apart i (p .links) (a .apart) j; mailed = a .mailed }
 
   pub mailed-alive : (b : Mailbox) → Mailed b → Alive codes i p b
   mailed-alive b h = record { stage = a .stage; placed = a .placed; valued = a .valued; apart = a .apart; mailed = h }

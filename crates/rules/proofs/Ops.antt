@@ -1,6 +1,6 @@
 -- The ops: what is shown of each is one record (`Shown`) with a row to an op (`rows`), so that one thing more to show is one field more.
 --   Running     a live process of a sound node is at op o of its code
---   Shown k x   of answer x, which the op with number k gives: it is refused with 25 only, and only at a recv; arrays keep their lengths;
+--   Shown k x   of answer x, which the op with number k gives: it is refused with 25 only, and only at a recv; the mailbox keeps its slots;
 --               what an effect must keep is kept
 --   op-shown    every op is shown so
 -- Assumes nothing.
@@ -29,20 +29,19 @@ use Rattle.node.specs.Lists.{allOf}
 use Rattle.node.specs.Mailboxes.{noMessage, messages, without, sixteenSlots}
 use Rattle.node.specs.Nodes.{noOp}
 use Rattle.node.specs.Ops.{kindsOf}
-use Rattle.node.specs.Processes.{register, withRegister, withRegisters, moved, advanced, trapped, linksTo, linked, unlinked, ended, sixteenLinks}
+use Rattle.node.specs.Processes.{register, withRegister, withRegisters, moved, advanced, trapped, linked, unlinked, ended}
 use Rattle.node.specs.Values.{badarg, badarith, pid}
 use Rattle.node.proofs.Lists.{leave-length}
 use Rattle.rules.specs.Answers.{Answer}
 use Rattle.rules.specs.Behaviours.{Instruction, instruction, numeric, operand, operandInRange, onClause, isRecv, isClause, clauseCount, noInstruction, hasClauses, codeSound}
 use Rattle.rules.specs.Effects.{State, Effect, becomes, ends, sends}
-use Rattle.rules.specs.Nodes.{linkSet, signalSound, sound}
+use Rattle.rules.specs.Nodes.{signalSound, sound}
 use Rattle.rules.specs.Receive.{Fit, fits, firstClause, search, kept, receivesFit, receives}
 use Rattle.rules.specs.Run.{setsRegister, jumpsIf, toProcess, toOther, spawns, opTable, runsOp}
 use Rattle.rules.specs.Values.{isNumber, valueSound, messageSound, sameValue}
 use Rattle.rules.proofs.All.{parts, allOf-at, Each, last, _then_, each-at}
 use Rattle.rules.proofs.Cases.{jumps-any, adds-any, compares-any, toProcess-any, toOther-any, receives-any}
-use Rattle.rules.proofs.Full.{Fills, withRegister-full, linked-full, unlinked-full, kept-full}
-use Rattle.rules.proofs.Keeps.{Good, becomes-alive, sends-alive, ends-good}
+use Rattle.rules.proofs.Keeps.{Fills, Good, becomes-alive, sends-alive, ends-good}
 use Rattle.rules.proofs.Living.{codeOf, Valued, Mailed, Alive, alive, alive-sound, live-born, without-mailed, register-sound, withRegister-keeps, moved-alive, registers-alive, trapped-alive, linked-alive, unlinked-alive, mailed-alive}
 use Rattle.rules.proofs.Places.{code-short, next-off, op-at, facts, in-range, target-11, target-12, target-13, target-14, fresh-sound}
 use Rattle.rules.proofs.Told.{Told}
@@ -123,7 +122,7 @@ module _ (codes : List (List Instruction)) (i : ℕ) (ops : List Op) (st : State
 
   -- the place rises by 1 behind every op but recv
   advanced-alive : isRecv (instruction o) ≡ false → (q : Process) → Alive codes i q (st .mail) → q .behaviour .0 ≡ p .behaviour .0 → q .place ≡ t → Alive codes i (advanced q) (st .mail)
-  unfolding advanced linkSet linksTo
+  unfolding advanced
   advanced-alive r q b eb et =
       let e : min (q .place + 1) 255 ≡ suc t = rw et (omega (arith, size-32, g .inside)) in
       let off : So (not (onClause whole (suc t))) = next-off (length codes) whole checked t (rw size (g .inside)) (rw there r) (rw there not-clause) in
@@ -215,7 +214,7 @@ At k m = (m ≡ 25) × (k ≡ 10)
 module _ (code : List Op) (i : ℕ) (st : State) (o : Op) where
   pub record Shown (k : ℕ) (x : Answer Effect) : Type 0 where
     pub told : Told (At k) x
-    pub full : So (sixteenLinks (st .process)) → So (sixteenSlots (st .mail)) → Fills x
+    pub full : So (sixteenSlots (st .mail)) → Fills x
     pub good : (codes : List (List Instruction)) → Running codes i code st o → o .number ≡ k → Good codes i x
 
   -- a fact that holds where a sound process is at the op with number k
@@ -224,13 +223,13 @@ module _ (code : List Op) (i : ℕ) (st : State) (o : Op) where
 
   ends-shown : (k : ℕ) (v : Value) → If k (So (valueSound v)) → Shown k (ends st v)
   unfolding ended
-  ends-shown k v h = record { told = tt; full = λ l s. record { links = l; slots = s; birth = tt }; good = λ codes g e. ends-good codes i st v (h codes g e) (g .alive .apart) }
+  ends-shown k v h = record { told = tt; full = λ s. s; good = λ codes g e. ends-good codes i st v (h codes g e) (g .alive .apart) }
 
   stays-shown : (k : ℕ) → eqb k 10 ≡ false → Shown k (becomes st (advanced (st .process)))
   unfolding advanced
   stays-shown k h = record {
     told = tt;
-    full = λ l s. record { links = l; slots = s; birth = tt };
+    full = λ s. s;
     good = λ codes g e. becomes-alive codes i st _ (advanced-alive codes i code st o g (other-op codes i code st o g k e h) (st .process) (g .alive) refl refl);
   }
 
@@ -238,7 +237,7 @@ module _ (code : List Op) (i : ℕ) (st : State) (o : Op) where
   unfolding advanced
   sets-shown k h r v f = record {
     told = tt;
-    full = λ l s. record { links = withRegister-full (st .process) r v l; slots = s; birth = tt };
+    full = λ s. s;
     good = λ codes g e. becomes-alive codes i st _ (set-alive codes i code st o g (other-op codes i code st o g k e h) r v (f codes g e));
   }
 
@@ -246,7 +245,7 @@ module _ (code : List Op) (i : ℕ) (st : State) (o : Op) where
   unfolding advanced trapped
   traps-shown f = record {
     told = tt;
-    full = λ l s. record { links = l; slots = s; birth = tt };
+    full = λ s. s;
     good = λ codes g e. becomes-alive codes i st _ (advanced-alive codes i code st o g (other-op codes i code st o g 8 e refl) (trapped (st .process) f) (trapped-alive codes i (st .process) (st .mail) (g .alive) f) refl refl);
   }
 
@@ -258,7 +257,7 @@ module _ (code : List Op) (i : ℕ) (st : State) (o : Op) where
   unfolding moved
   moves-shown k h = record {
     told = tt;
-    full = λ l s. record { links = l; slots = s; birth = tt };
+    full = λ s. s;
     good = λ codes g e. let w = h codes g e in becomes-alive codes i st _ (moved-good codes i code st o g (o .target) (w .0) (w .1));
   }
 
@@ -266,12 +265,12 @@ module _ (code : List Op) (i : ℕ) (st : State) (o : Op) where
   jumps-shown k h l b = jumps-any st (Shown k) (o .target) (moves-shown k l) (stays-shown k h) b
 
   -- a signal to j, from the process as q, whose place rises
-  sends-shown : (k : ℕ) → eqb k 10 ≡ false → (q : Process) (j : ℕ) (x : Signal) → (So (sixteenLinks (st .process)) → So (sixteenLinks q)) → If k (So (isNumber j) × So (signalSound i j x)) →
+  sends-shown : (k : ℕ) → eqb k 10 ≡ false → (q : Process) (j : ℕ) (x : Signal) → If k (So (isNumber j) × So (signalSound i j x)) →
       ((codes : List (List Instruction)) → Running codes i code st o → o .number ≡ k → Alive codes i q (st .mail) × (q .behaviour .0 ≡ st .process .behaviour .0) × (q .place ≡ st .process .place)) → Shown k (sends st (advanced q) j x)
   unfolding advanced
-  sends-shown k h q j x f n a = record {
+  sends-shown k h q j x n a = record {
     told = tt;
-    full = λ l s. record { links = f l; slots = s; birth = tt };
+    full = λ s. s;
     good = λ codes g e.
         let w = a codes g e in
         let u = n codes g e in
@@ -294,18 +293,17 @@ module _ (code : List Op) (i : ℕ) (st : State) (o : Op) where
   send-shown : (k : ℕ) → eqb k 10 ≡ false → (x : Signal) → ((j : ℕ) → If k (So (signalSound i j x))) → Shown k (toProcess st r (λ j. sends st (advanced (st .process)) j x))
   send-shown k h x f =
       toProcess-any st (Shown k) (λ j. sends st (advanced (st .process)) j x) r
-      (λ j q. sends-shown k h (st .process) (j .0) x (λ l. l) (λ c g e. (pid-sound k j q c g e, f (j .0) c g e)) (λ c g e. (g .alive, refl, refl)))
+      (λ j q. sends-shown k h (st .process) (j .0) x (λ c g e. (pid-sound k j q c g e, f (j .0) c g e)) (λ c g e. (g .alive, refl, refl)))
       (ends-shown k badarg (λ c g e. refl))
 
   -- link and unlink: a change of the links, told to another process
   links-shown : (k : ℕ) → eqb k 10 ≡ false → (f : ℕ → Process) (x : Signal) → ((j : ℕ) → eqb j i ≡ false → So (signalSound i j x)) →
-      ((j : ℕ) → So (sixteenLinks (st .process)) → So (sixteenLinks (f j))) →
       ((j : ℕ) → eqb j i ≡ false → (codes : List (List Instruction)) → Running codes i code st o → So (isNumber j) → Alive codes i (f j) (st .mail) × (f j .behaviour .0 ≡ st .process .behaviour .0) × (f j .place ≡ st .process .place)) →
       Shown k (toProcess st r (λ j. toOther i st j (sends st (advanced (f j)) j x)))
-  links-shown k h f x signal full alive =
+  links-shown k h f x signal alive =
       toProcess-any st (Shown k) (λ j. toOther i st j (sends st (advanced (f j)) j x)) r
       (λ j q. toOther-any st (Shown k) i (j .0) _ (stays-shown k h) (λ e.
-      sends-shown k h (f (j .0)) (j .0) x (full (j .0)) (λ c g d. (pid-sound k j q c g d, signal (j .0) e)) (λ c g d. alive (j .0) e c g (pid-sound k j q c g d))))
+      sends-shown k h (f (j .0)) (j .0) x (λ c g d. (pid-sound k j q c g d, signal (j .0) e)) (λ c g d. alive (j .0) e c g (pid-sound k j q c g d))))
       (ends-shown k badarg (λ c g e. refl))
 
   -- link and unlink go to another process
@@ -314,17 +312,17 @@ module _ (code : List Op) (i : ℕ) (st : State) (o : Op) where
 
   linked-shown : Shown 6 (toProcess st r (λ j. toOther i st j (sends st (advanced (linked (st .process) j)) j Link)))
   unfolding linked
-  linked-shown = links-shown 6 refl (linked (st .process)) Link other-sound (linked-full (st .process)) (λ j e codes g n. (linked-alive codes i (st .process) (st .mail) (g .alive) j (g .number) n e, refl, refl))
+  linked-shown = links-shown 6 refl (linked (st .process)) Link other-sound (λ j e codes g n. (linked-alive codes i (st .process) (st .mail) (g .alive) j (g .number) n e, refl, refl))
 
   unlinked-shown : Shown 7 (toProcess st r (λ j. toOther i st j (sends st (advanced (unlinked (st .process) j)) j Unlink)))
   unfolding unlinked
-  unlinked-shown = links-shown 7 refl (unlinked (st .process)) Unlink other-sound (unlinked-full (st .process)) (λ j e codes g n. (unlinked-alive codes i (st .process) (st .mail) (g .alive) j, refl, refl))
+  unlinked-shown = links-shown 7 refl (unlinked (st .process)) Unlink other-sound (λ j e codes g n. (unlinked-alive codes i (st .process) (st .mail) (g .alive) j, refl, refl))
 
   spawns-shown : Shown 9 (spawns i st o)
   unfolding advanced
   spawns-shown = record {
     told = tt;
-    full = λ l s. record { links = withRegister-full (st .process) (o .r) (Pid (o .process)) l; slots = s; birth = refl };
+    full = λ s. s;
     good = λ codes g e. spawn-good codes i code st o g e;
   }
 
@@ -332,7 +330,7 @@ module _ (code : List Op) (i : ℕ) (st : State) (o : Op) where
   unfolding moved without
   receives-shown = record {
     told = receives-any st (Told (At 10)) code o (refl, refl) (λ f q. tt);
-    full = λ l s. receives-any st Fills code o tt (λ f q. record { links = kept-full (st .process) (f .clause) (f .message) l; slots = rw (leave-length noMessage (f .index) (st .mail .slots)) s; birth = tt });
+    full = λ s. receives-any st Fills code o tt (λ f q. rw (leave-length noMessage (f .index) (st .mail .slots)) s);
     good = λ codes g e. receives-any st (Good codes i) code o tt (fit-good codes i code st o g e);
   }
 

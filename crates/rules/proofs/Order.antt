@@ -16,14 +16,15 @@ use Rattle.node.specs.declared.Process.{Process}
 use Rattle.node.specs.declared.Stage.{Stage}
 use Rattle.node.specs.declared.Stage.the-variants.{Unborn, Live, Closing, Gone}
 use Rattle.node.specs.Nodes.{noProcess}
-use Rattle.node.specs.Processes.{gone, unlinked, linksTo}
+use Rattle.node.specs.Processes.{gone, unlinked}
+use Rattle.node.specs.Sets.{lowestPeer}
 use Rattle.rules.specs.Answers.{Answer, refused, done}
 use Rattle.rules.specs.Calls.{Call, single, schedule, nodeBehind, ifAccepted, callNode, callSteps, after, accepted, acceptedBy}
 use Rattle.rules.specs.Effects.{Effect, Sending, Birth, State}
 use Rattle.rules.specs.Guarantees.{Order, SoundKept, Stopped, PlayIsSteps, undecided, full, taken, Exclusive, rank, Forward}
 use Rattle.rules.specs.Nodes.{sound, Sound, Equal, view, behavioursOf, code, process}
 use Rattle.rules.specs.Arrive.{arrivesIn, arrives}
-use Rattle.rules.specs.Run.{lowest, closesTo, closes, runsIn, runs}
+use Rattle.rules.specs.Run.{closesTo, closes, runsIn, runs}
 use Rattle.rules.specs.Values.{numbers}
 use Rattle.rules.specs.Steps.{Action, run, arrive, owner, isUnborn, ownerBorn, pairHasRoom, numberFree, at, withBirth, state, incoming, commit, decide, step, playsOn, played, play}
 use Rattle.rules.specs.Traces.{Runs}
@@ -203,14 +204,14 @@ set-forward (x ∷ l) (suc k) (suc i) p h = set-forward l k i p h
 -- a closing process stays closing or is gone
 closes-rank : (st : State) (e : Effect) → st .process .stage ≡ Closing → closes st ≡ done e → 2 ≤ rank (e .process .stage)
 unfolding closes gone unlinked processOf
-closes-rank st e c h = go (lowest (linksTo (st .process)) numbers) h
+closes-rank st e c h = go (lowestPeer (st .process .links)) h
   where
-    go : (o : Option ℕ) → closesTo st o ≡ done e → 2 ≤ rank (e .process .stage)
-    go none q =
+    go : (j : ℕ) → closesTo st j ≡ done e → 2 ≤ rank (e .process .stage)
+    go zero q =
         let d : gone (st .process) ≡ e .process = ap processOf q in
         rw (← d) (omega arith)
-    go (some j) q =
-        let d : unlinked (st .process) j ≡ e .process = ap processOf q in
+    go (suc j) q =
+        let d : unlinked (st .process) (suc j) ≡ e .process = ap processOf q in
         rw (← d, c) (omega arith)
 
 -- an owner's stage goes forward

@@ -22,7 +22,7 @@ use Rattle.rules.specs.Behaviours.{Instruction, instruction, numeric, op
 use Rattle.rules.specs.Nodes.{standing, standingSound}
 use Rattle.rules.specs.Values.{fitsInt, valueSound}
 use Rattle.rules.proofs.All.{parts, allOf-at, map-at, allTwo-at}
-use Rattle.rules.proofs.Living.{codeOf, Alive, alive-sound, no-links, emptied-mailed}
+use Rattle.rules.proofs.Living.{codeOf, Alive, alive-sound, none-apart, emptied-mailed}
 
 -- ---- places
 
@@ -172,7 +172,7 @@ module _ (codes : List (List Instruction)) (sounds : So (allOf (codeSound (lengt
         stage = refl;
         placed = record { known = known; within = le-leb 0 (length (codeOf codes (b .0))) (omega arith); off = none-due-off (length codes) (codeOf codes (b .0)) sound 0 refl };
         valued = record { v0 = h; v1 = refl; v2 = refl; v3 = refl };
-        apart = no-links i b v;
+        apart = none-apart i;
         mailed = emptied-mailed m;
       }
 

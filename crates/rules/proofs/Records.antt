@@ -15,6 +15,7 @@ use Rattle.node.specs.declared.Cell.{Cell}
 use Rattle.node.specs.declared.Mailbox.{Mailbox}
 use Rattle.node.specs.declared.Message.{Message}
 use Rattle.node.specs.declared.Node.{Node}
+use Rattle.node.specs.declared.Peers.{Peers}
 use Rattle.node.specs.declared.Process.{Process}
 use Rattle.node.specs.declared.Row.{Row}
 use Rattle.node.specs.declared.Signal.{Signal}
@@ -22,10 +23,12 @@ use Rattle.node.specs.declared.Slot.{Slot}
 use Rattle.node.specs.declared.Value.{Value}
 use Rattle.node.specs.Lists.{firsts, leave}
 use Rattle.node.specs.Mailboxes.{noMessage, messages, joined, without, emptied}
-use Rattle.node.specs.Processes.{linksTo, linked, unlinked, ended, gone}
+use Rattle.node.specs.Processes.{ended, gone}
+use Rattle.node.specs.Sets.{members, has, withPeer, withoutPeer}
+use Rattle.node.proofs.Sets.{members-length, members-with, members-without}
 use Rattle.node.specs.Rows.{noSignal, signals, oldest, pushed, popped}
 use Rattle.node.proofs.Lists.{firsts-join, firsts-leave, firsts-behind, map-append, map-take, map-drop}
-use Rattle.rules.specs.Nodes.{Equal, sound, shaped, viewSound, linkSet, standing}
+use Rattle.rules.specs.Nodes.{Equal, sound, shaped, viewSound, setOf, standing}
 use Rattle.rules.specs.Nodes as nodes
 use Rattle.rules.specs.Values.{isNumber}
 
@@ -95,41 +98,41 @@ pub number-bounds : (j : ℕ) → isNumber j ≡ true → (1 ≤ j) × (j ≤ 16
 unfolding isNumber
 number-bounds j h = let b = and-eq-true-iff (leb 1 j) (leb j 16) .0 h in (leb-true 1 j (b .0), leb-true j 16 (b .1))
 
-module _ (p : Process) (sixteen : length (p .links) ≡ 16) (j : ℕ) (number : isNumber j ≡ true) where
+module _ (s : Peers) (j : ℕ) (number : isNumber j ≡ true) where
   -- in both cases j stands as b says, and the others as they did
-  links-at : (b : Bool) → (isNumber j && getD (set (p .links) (j - 1) b) (j - 1) false) ≡ b
-  links-at b = let h = number-bounds j number in rw (number, getD-set-same (p .links) (j - 1) b false (omega arith))
+  set-at : (b : Bool) → (isNumber j && getD (set (members s) (j - 1) b) (j - 1) false) ≡ b
+  set-at b = let h = number-bounds j number in rw (number, getD-set-same (members s) (j - 1) b false (rw (members-length s) (omega arith)))
 
-  links-else : (b : Bool) (k : ℕ) → (k ≡ j → ⊥) → (isNumber k && getD (set (p .links) (j - 1) b) (k - 1) false) ≡ (isNumber k && getD (p .links) (k - 1) false)
-  links-else b k h = go (isNumber k) refl
+  set-else : (b : Bool) (k : ℕ) → (k ≡ j → ⊥) → (isNumber k && getD (set (members s) (j - 1) b) (k - 1) false) ≡ (isNumber k && getD (members s) (k - 1) false)
+  set-else b k h = go (isNumber k) refl
     where
-      go : (t : Bool) → isNumber k ≡ t → (t && getD (set (p .links) (j - 1) b) (k - 1) false) ≡ (t && getD (p .links) (k - 1) false)
+      go : (t : Bool) → isNumber k ≡ t → (t && getD (set (members s) (j - 1) b) (k - 1) false) ≡ (t && getD (members s) (k - 1) false)
       go false e = refl
-      go true e = let a = number-bounds j number in let c = number-bounds k e in getD-set-other (p .links) (j - 1) (k - 1) b false (λ q. h (omega arith))
+      go true e = let a = number-bounds j number in let c = number-bounds k e in getD-set-other (members s) (j - 1) (k - 1) b false (λ q. h (omega arith))
 
   -- j joins the set
-  pub links-linked : (k : ℕ) → linkSet (linked p j) k ≡ (eqb k j || linkSet p k)
-  unfolding linkSet linked linksTo
-  links-linked k = go (ℕ-discrete k j)
+  pub set-with : (k : ℕ) → setOf (withPeer s j) k ≡ (eqb k j || setOf s k)
+  unfolding setOf has
+  set-with k = rw (members-with s j) (go (ℕ-discrete k j))
     where
-      go : Dec (k ≡ j) → (isNumber k && getD (set (p .links) (j - 1) true) (k - 1) false) ≡ (eqb k j || (isNumber k && getD (p .links) (k - 1) false))
-      go (yes e) = rw (e, eq-eqb j j refl) (links-at true)
-      go (no h) = rw (ne-eqb k j h) (links-else true k h)
+      go : Dec (k ≡ j) → (isNumber k && getD (set (members s) (j - 1) true) (k - 1) false) ≡ (eqb k j || (isNumber k && getD (members s) (k - 1) false))
+      go (yes e) = rw (e, eq-eqb j j refl) (set-at true)
+      go (no h) = rw (ne-eqb k j h) (set-else true k h)
 
   -- j leaves the set
-  pub links-unlinked : (k : ℕ) → linkSet (unlinked p j) k ≡ (not (eqb k j) && linkSet p k)
-  unfolding linkSet unlinked linksTo
-  links-unlinked k = go (ℕ-discrete k j)
+  pub set-without : (k : ℕ) → setOf (withoutPeer s j) k ≡ (not (eqb k j) && setOf s k)
+  unfolding setOf has
+  set-without k = rw (members-without s j) (go (ℕ-discrete k j))
     where
-      go : Dec (k ≡ j) → (isNumber k && getD (set (p .links) (j - 1) false) (k - 1) false) ≡ (not (eqb k j) && (isNumber k && getD (p .links) (k - 1) false))
-      go (yes e) = rw (e, eq-eqb j j refl) (links-at false)
-      go (no h) = rw (ne-eqb k j h) (links-else false k h)
+      go : Dec (k ≡ j) → (isNumber k && getD (set (members s) (j - 1) false) (k - 1) false) ≡ (not (eqb k j) && (isNumber k && getD (members s) (k - 1) false))
+      go (yes e) = rw (e, eq-eqb j j refl) (set-at false)
+      go (no h) = rw (ne-eqb k j h) (set-else false k h)
 
 -- ---- ending
 
 -- an ended process holds its reason and its links, which are unchanged
-pub standing-ended : (p : Process) (m : Mailbox) (v : Value) → standing (ended p v) m ≡ nodes.closing v (linkSet p)
-unfolding standing ended linkSet linksTo
+pub standing-ended : (p : Process) (m : Mailbox) (v : Value) → standing (ended p v) m ≡ nodes.closing v (setOf (p .links))
+unfolding standing ended
 standing-ended p m v = refl
 
 pub standing-gone : (p : Process) (m : Mailbox) → standing (gone p) m ≡ nodes.gone

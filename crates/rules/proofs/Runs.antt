@@ -14,19 +14,18 @@ use Rattle.node.specs.declared.Stage.the-variants.{Closing, Gone}
 use Rattle.node.specs.Lists.{allOf}
 use Rattle.node.specs.Mailboxes.{sixteenSlots}
 use Rattle.node.specs.Nodes.{noOp}
-use Rattle.node.specs.Processes.{unlinked, ended, gone, sixteenLinks}
+use Rattle.node.specs.Processes.{unlinked, gone}
 use Rattle.node.specs.Values.{normal}
 use Rattle.rules.specs.Behaviours.{Instruction, instruction, codeSound}
 use Rattle.rules.specs.Effects.{State}
-use Rattle.rules.specs.Nodes.{standingIn, standing, linkSet, standingSound, sound}
+use Rattle.rules.specs.Nodes.{standingIn, standing, setOf, standingSound, sound}
 use Rattle.rules.specs.Run.{runsOp, closes, runs}
 use Rattle.rules.specs.Steps.{isUnborn}
 use Rattle.rules.specs.Values.{isNumber, valueSound}
 use Rattle.rules.proofs.All.{both, parts}
 use Rattle.rules.proofs.Cases.{closes-any, runs-any}
-use Rattle.rules.proofs.Full.{Fills, unlinked-full}
-use Rattle.rules.proofs.Keeps.{Good, ends-good}
-use Rattle.rules.proofs.Living.{codeOf, Unlinked, alive, unlinked-apart}
+use Rattle.rules.proofs.Keeps.{Fills, Good, ends-good}
+use Rattle.rules.proofs.Living.{codeOf, Unlinked, alive, without-apart}
 use Rattle.rules.proofs.Ops.{At, op-shown}
 use Rattle.rules.proofs.Told.{Told, Ruled, told-more}
 
@@ -40,9 +39,9 @@ unlinked-stage : (p : Process) (j : ℕ) {s : Stage} → p .stage ≡ s → unli
 unfolding unlinked
 unlinked-stage p j e = e
 
-closing-sound : (p : Process) (i j : ℕ) → So (valueSound (p .reason)) → Unlinked i p → So (valueSound (unlinked p j .reason) && not (linkSet (unlinked p j) i))
+closing-sound : (p : Process) (i j : ℕ) → So (valueSound (p .reason)) → Unlinked i p → So (valueSound (unlinked p j .reason) && not (setOf (unlinked p j .links) i))
 unfolding unlinked
-closing-sound p i j h g = both h (unlinked-apart i p g j)
+closing-sound p i j h g = both h (without-apart i (p .links) g j)
 
 module _ (codes : List (List Instruction)) (i : ℕ) (st : State) (sound : So (standingSound codes i (standing (st .process) (st .mail)))) where
   -- what is known where the stage is
@@ -58,7 +57,7 @@ module _ (codes : List (List Instruction)) (i : ℕ) (st : State) (sound : So (s
   closes-good : st .process .stage ≡ Closing → Good codes i (closes st)
   closes-good e =
       let p = st .process in
-      let w = parts (valueSound (p .reason)) (not (linkSet p i)) (at-stage Closing e) in
+      let w = parts (valueSound (p .reason)) (not (setOf (p .links) i)) (at-stage Closing e) in
       closes-any st (Good codes i)
       (record { sound = in-stage Gone (gone p) (gone-stage p) refl; born = ap isUnborn (gone-stage p); sent = tt; birth = tt; apart = tt })
       (λ j n. record {
@@ -74,9 +73,8 @@ module _ (st : State) where
   pub closes-told : (P : ℕ → Type 0) → Told P (closes st)
   closes-told P = closes-any st (Told P) tt (λ j n. tt)
 
-  closes-full : So (sixteenLinks (st .process)) → So (sixteenSlots (st .mail)) → Fills (closes st)
-  unfolding gone
-  closes-full l s = closes-any st Fills (record { links = l; slots = s; birth = tt }) (λ j n. record { links = unlinked-full (st .process) j l; slots = s; birth = tt })
+  closes-full : So (sixteenSlots (st .mail)) → Fills (closes st)
+  closes-full s = closes-any st Fills s (λ j n. s)
 
 -- ---- a run
 
@@ -88,10 +86,8 @@ module _ (code : List Op) (i : ℕ) (st : State) where
       (λ q d. told-more (At (o .number)) Ruled (λ k e. (omega (arith, e .0), omega (arith, e .0))) (runsOp code i st o) (op-shown code i st o .told))
       (λ q. closes-told st Ruled) (λ q. (omega arith, omega arith))
 
-  pub runs-full : So (sixteenLinks (st .process)) → So (sixteenSlots (st .mail)) → Fills (runs code i st)
-  unfolding ended
-  runs-full l s =
-      runs-any st Fills code i (λ q. tt) (λ q d. record { links = l; slots = s; birth = tt }) (λ q d. op-shown code i st (getD code (st .process .place) noOp) .full l s) (λ q. closes-full st l s) (λ q. tt)
+  pub runs-full : So (sixteenSlots (st .mail)) → Fills (runs code i st)
+  runs-full s = runs-any st Fills code i (λ q. tt) (λ q d. s) (λ q d. op-shown code i st (getD code (st .process .place) noOp) .full s) (λ q. closes-full st s) (λ q. tt)
 
   pub runs-good : (codes : List (List Instruction)) → So (isNumber i) → So (standingSound codes i (standing (st .process) (st .mail))) →
       (So (leb 1 (st .process .behaviour .0) && leb (st .process .behaviour .0) (length codes)) → codeOf codes (st .process .behaviour .0) ≡ map instruction code) →

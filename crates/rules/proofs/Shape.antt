@@ -9,26 +9,22 @@ use lib.Dec.{eqb}
 use lib.ListN.{length, getD, set, length-set}
 use Rattle.node.specs.declared.Mailbox.{Mailbox}
 use Rattle.node.specs.declared.Node.{Node}
-use Rattle.node.specs.declared.Process.{Process}
 use Rattle.node.specs.declared.Row.{Row}
 use Rattle.node.specs.Lists.{allOf}
 use Rattle.node.specs.Mailboxes.{emptied, sixteenSlots}
 use Rattle.node.specs.Nodes.{noMailbox, noProcess, noRow}
-use Rattle.node.specs.Processes.{sixteenLinks}
 use Rattle.node.specs.Rows.{noSignal, fourCells, pushed, popped}
 use Rattle.node.proofs.Lists.{leave-length}
 use Rattle.rules.specs.Effects.{Effect, Sending, Birth}
 use Rattle.rules.specs.Nodes.{shaped}
 use Rattle.rules.specs.Steps.{Action, run, arrive, owner, at, withArrival, withSending, withBirth, commit}
 use Rattle.rules.proofs.All.{both, parts}
-use Rattle.rules.proofs.Full.{Full, FullBirth}
 
 -- the test `shaped`, part by part
 pub record Sized (n : Node) : Type 0 where
   pub lens : length (n .lens) ≡ 8
   pub ops : length (n .ops) ≡ 256
   pub processes : length (n .processes) ≡ 16
-  pub links : So (allOf sixteenLinks (n .processes))
   pub mail : length (n .mail) ≡ 16
   pub slots : So (allOf sixteenSlots (n .mail))
   pub flight : length (n .flight) ≡ 256
@@ -42,14 +38,12 @@ module _ (n : Node) where
       let b = parts _ (eqb (length (n .flight)) 256) (a .0) in
       let c = parts _ (allOf sixteenSlots (n .mail)) (b .0) in
       let d = parts _ (eqb (length (n .mail)) 16) (c .0) in
-      let e = parts _ (allOf sixteenLinks (n .processes)) (d .0) in
-      let f = parts _ (eqb (length (n .processes)) 16) (e .0) in
+      let f = parts _ (eqb (length (n .processes)) 16) (d .0) in
       let g = parts (eqb (length (n .lens)) 8) (eqb (length (n .ops)) 256) (f .0) in
       record {
         lens = eqb-true _ _ (g .0);
         ops = eqb-true _ _ (g .1);
         processes = eqb-true _ _ (f .1);
-        links = e .1;
         mail = eqb-true _ _ (d .1);
         slots = c .1;
         flight = eqb-true _ _ (b .1);
@@ -59,11 +53,10 @@ module _ (n : Node) where
   pub of-sized : Sized n → So (shaped n)
   unfolding shaped
   of-sized z =
-      both (both (both (both (both (both (both
+      both (both (both (both (both (both
       (eq-eqb _ _ (z .lens))
       (eq-eqb _ _ (z .ops)))
       (eq-eqb _ _ (z .processes)))
-      (z .links))
       (eq-eqb _ _ (z .mail)))
       (z .slots))
       (eq-eqb _ _ (z .flight)))
@@ -109,24 +102,19 @@ unfolding pushed
 sending-cells X i none h = h
 sending-cells X i (some x) h = at-all noRow fourCells (λ r. pushed r (x .signal)) (λ r q. rw (length-set (r .cells) (r .count) (record { signal = x .signal })) q) _ X h
 
-birth-links : (X : List Process) (b : Option Birth) → FullBirth b → So (allOf sixteenLinks X) → So (allOf sixteenLinks (withBirth noProcess (λ b p. b .process) X b))
-birth-links X none g h = h
-birth-links X (some b) g h = at-all noProcess sixteenLinks (λ p. b .process) (λ p q. g) (b .number - 1) X h
-
 birth-slots : (X : List Mailbox) (b : Option Birth) → So (allOf sixteenSlots X) → So (allOf sixteenSlots (withBirth noMailbox (λ b m. emptied m) X b))
 unfolding emptied
 birth-slots X none h = h
 birth-slots X (some b) h = at-all noMailbox sixteenSlots emptied (λ m q. q) (b .number - 1) X h
 
-pub sized-kept : (n : Node) (a : Action) (e : Effect) → Full e → Sized n → Sized (commit n a e)
+pub sized-kept : (n : Node) (a : Action) (e : Effect) → So (sixteenSlots (e .mail)) → Sized n → Sized (commit n a e)
 unfolding commit
 sized-kept n a e f z = record {
   lens = z .lens;
   ops = z .ops;
   processes = birth-length noProcess (λ b p. b .process) (set (n .processes) (owner a - 1) (e .process)) (e .born) ∙ length-set (n .processes) (owner a - 1) (e .process) ∙ z .processes;
-  links = birth-links (set (n .processes) (owner a - 1) (e .process)) (e .born) (f .birth) (set-all noProcess sixteenLinks (owner a - 1) (n .processes) (e .process) (f .links) (z .links));
   mail = birth-length noMailbox (λ b m. emptied m) (set (n .mail) (owner a - 1) (e .mail)) (e .born) ∙ length-set (n .mail) (owner a - 1) (e .mail) ∙ z .mail;
-  slots = birth-slots (set (n .mail) (owner a - 1) (e .mail)) (e .born) (set-all noMailbox sixteenSlots (owner a - 1) (n .mail) (e .mail) (f .slots) (z .slots));
+  slots = birth-slots (set (n .mail) (owner a - 1) (e .mail)) (e .born) (set-all noMailbox sixteenSlots (owner a - 1) (n .mail) (e .mail) f (z .slots));
   flight = sending-length (withArrival (n .flight) a) (owner a) (e .sent) ∙ arrival-length (n .flight) a ∙ z .flight;
   cells = sending-cells (withArrival (n .flight) a) (owner a) (e .sent) (arrival-cells (n .flight) a (z .cells));
 }

@@ -3,7 +3,7 @@ use mathlib.Core.Bool.{false}
 use mathlib.Core.List.{List, [], _∷_, map}
 use mathlib.Core.Path.{_≡_, refl, sym, _∙_, ap}
 use Prim.Native.Nat.{ℕ}
-use lib.ListN.{length, replicate}
+use lib.ListN.{length}
 use Rattle.node.specs.declared.Node.{Node}
 use Rattle.node.specs.declared.Process.{Process}
 use Rattle.node.specs.declared.Stage.the-variants.{Closing}
@@ -12,11 +12,12 @@ use Rattle.node.specs.Mailboxes.{messages, joined, without, emptied}
 use Rattle.node.specs.Ops.{kindsOf}
 use Rattle.node.specs.Processes.{register, withRegister, moved, advanced, trapped, linksTo, linked, unlinked, ended, gone}
 use Rattle.node.specs.Rows.{signals, oldest, pushed, popped}
+use Rattle.node.specs.Sets.{noPeers, members, has, withPeer, withoutPeer, lowestPeer}
 use Rattle.node.specs.Values.{intZero, normal, pid}
 use Rattle.rules.specs.Arrive.{arrives, exits}
 use Rattle.rules.specs.Behaviours.{operand, instruction, operandInRange, inRange, hasClauses, targetsFree, wellPlaced, codeSound}
 use Rattle.rules.specs.Calls.{Call, single, schedule, callNode, callSteps, after, accepted}
-use Rattle.rules.specs.Nodes.{Sound, sound, shaped, viewSound, view, behavioursOf, code, linkSet, standing, runningSound, rowSound}
+use Rattle.rules.specs.Nodes.{Sound, sound, shaped, viewSound, view, behavioursOf, code, setOf, standing, runningSound, rowSound}
 use Rattle.rules.specs.Receive.{receives, fits}
 use Rattle.rules.specs.Run.{runs, runsLive, runsOp, closes}
 use Rattle.rules.specs.Steps.{run, arrive, play, played, step, rule, ready, commit, incoming, decide, at, numbered, ownerBorn, signalWaits, pairHasRoom, numberFree}
@@ -25,7 +26,7 @@ use Rattle.rules.specs.Values.{isNumber, fitsInt}
 use Rattle.rules.proofs.Sample.{opOf, int, sample, started}
 
 pub started-sound : Sound started
-unfolding started sample opOf sound shaped viewSound view behavioursOf code linkSet standing runningSound rowSound operand instruction operandInRange inRange hasClauses targetsFree wellPlaced codeSound isNumber fitsInt messages signals linksTo kindsOf
+unfolding started sample opOf sound shaped viewSound view behavioursOf code setOf has members standing runningSound rowSound operand instruction operandInRange inRange hasClauses targetsFree wellPlaced codeSound isNumber fitsInt messages signals linksTo kindsOf
 started-sound = refl
 
 -- two orders of one set of steps: process 1 ends before or after process 2 receives
@@ -42,33 +43,33 @@ mixed = single (run 2) ∷ single (run 3) ∷ schedule (run 1 ∷ run 1 ∷ run 
 
 -- both processes have ended with a0, and are closing
 stands : ℕ → ℕ → Value → Value → Process
-stands b t v w = record { stage = Closing; behaviour = record { 0 = b }; place = t; r0 = v; r1 = w; r2 = intZero; r3 = intZero; trap = false; links = replicate 16 false; reason = normal }
+stands b t v w = record { stage = Closing; behaviour = record { 0 = b }; place = t; r0 = v; r1 = w; r2 = intZero; r3 = intZero; trap = false; links = noPeers; reason = normal }
 
 finish : Node
 finish = sample (stands 1 3 (pid 2) (int 12)) (stands 2 2 (int 12) intZero)
 
 early-end : after started early ≡ finish
-unfolding early late mixed finish stands after accepted callNode callSteps owned started sample opOf play played step rule ready commit incoming decide at numbered ownerBorn signalWaits pairHasRoom numberFree sound shaped viewSound view behavioursOf code linkSet standing runningSound rowSound receives fits runs runsLive runsOp closes arrives exits operand instruction operandInRange inRange hasClauses targetsFree wellPlaced codeSound isNumber fitsInt messages joined without emptied signals oldest pushed popped register withRegister moved advanced trapped linksTo linked unlinked ended gone kindsOf
+unfolding early late mixed finish stands after accepted callNode callSteps owned started sample opOf play played step rule ready commit incoming decide at numbered ownerBorn signalWaits pairHasRoom numberFree sound shaped viewSound view behavioursOf code setOf has members standing runningSound rowSound receives fits runs runsLive runsOp closes arrives exits operand instruction operandInRange inRange hasClauses targetsFree wellPlaced codeSound isNumber fitsInt messages joined without emptied signals oldest pushed popped register withRegister moved advanced trapped linksTo linked unlinked withPeer withoutPeer lowestPeer ended gone kindsOf
 early-end = refl
 
 late-end : after started late ≡ finish
-unfolding early late mixed finish stands after accepted callNode callSteps owned started sample opOf play played step rule ready commit incoming decide at numbered ownerBorn signalWaits pairHasRoom numberFree sound shaped viewSound view behavioursOf code linkSet standing runningSound rowSound receives fits runs runsLive runsOp closes arrives exits operand instruction operandInRange inRange hasClauses targetsFree wellPlaced codeSound isNumber fitsInt messages joined without emptied signals oldest pushed popped register withRegister moved advanced trapped linksTo linked unlinked ended gone kindsOf
+unfolding early late mixed finish stands after accepted callNode callSteps owned started sample opOf play played step rule ready commit incoming decide at numbered ownerBorn signalWaits pairHasRoom numberFree sound shaped viewSound view behavioursOf code setOf has members standing runningSound rowSound receives fits runs runsLive runsOp closes arrives exits operand instruction operandInRange inRange hasClauses targetsFree wellPlaced codeSound isNumber fitsInt messages joined without emptied signals oldest pushed popped register withRegister moved advanced trapped linksTo linked unlinked withPeer withoutPeer lowestPeer ended gone kindsOf
 late-end = refl
 
 mixed-end : after started mixed ≡ finish
-unfolding early late mixed finish stands after accepted callNode callSteps owned started sample opOf play played step rule ready commit incoming decide at numbered ownerBorn signalWaits pairHasRoom numberFree sound shaped viewSound view behavioursOf code linkSet standing runningSound rowSound receives fits runs runsLive runsOp closes arrives exits operand instruction operandInRange inRange hasClauses targetsFree wellPlaced codeSound isNumber fitsInt messages joined without emptied signals oldest pushed popped register withRegister moved advanced trapped linksTo linked unlinked ended gone kindsOf
+unfolding early late mixed finish stands after accepted callNode callSteps owned started sample opOf play played step rule ready commit incoming decide at numbered ownerBorn signalWaits pairHasRoom numberFree sound shaped viewSound view behavioursOf code setOf has members standing runningSound rowSound receives fits runs runsLive runsOp closes arrives exits operand instruction operandInRange inRange hasClauses targetsFree wellPlaced codeSound isNumber fitsInt messages joined without emptied signals oldest pushed popped register withRegister moved advanced trapped linksTo linked unlinked withPeer withoutPeer lowestPeer ended gone kindsOf
 mixed-end = refl
 
 pub early-steps : accepted started early ≡ run 1 ∷ run 1 ∷ run 1 ∷ run 1 ∷ arrive 2 1 ∷ run 2 ∷ run 2 ∷ []
-unfolding early late mixed finish stands after accepted callNode callSteps owned started sample opOf play played step rule ready commit incoming decide at numbered ownerBorn signalWaits pairHasRoom numberFree sound shaped viewSound view behavioursOf code linkSet standing runningSound rowSound receives fits runs runsLive runsOp closes arrives exits operand instruction operandInRange inRange hasClauses targetsFree wellPlaced codeSound isNumber fitsInt messages joined without emptied signals oldest pushed popped register withRegister moved advanced trapped linksTo linked unlinked ended gone kindsOf
+unfolding early late mixed finish stands after accepted callNode callSteps owned started sample opOf play played step rule ready commit incoming decide at numbered ownerBorn signalWaits pairHasRoom numberFree sound shaped viewSound view behavioursOf code setOf has members standing runningSound rowSound receives fits runs runsLive runsOp closes arrives exits operand instruction operandInRange inRange hasClauses targetsFree wellPlaced codeSound isNumber fitsInt messages joined without emptied signals oldest pushed popped register withRegister moved advanced trapped linksTo linked unlinked withPeer withoutPeer lowestPeer ended gone kindsOf
 early-steps = refl
 
 pub late-steps : accepted started late ≡ run 1 ∷ run 1 ∷ run 1 ∷ arrive 2 1 ∷ run 2 ∷ run 2 ∷ run 1 ∷ []
-unfolding early late mixed finish stands after accepted callNode callSteps owned started sample opOf play played step rule ready commit incoming decide at numbered ownerBorn signalWaits pairHasRoom numberFree sound shaped viewSound view behavioursOf code linkSet standing runningSound rowSound receives fits runs runsLive runsOp closes arrives exits operand instruction operandInRange inRange hasClauses targetsFree wellPlaced codeSound isNumber fitsInt messages joined without emptied signals oldest pushed popped register withRegister moved advanced trapped linksTo linked unlinked ended gone kindsOf
+unfolding early late mixed finish stands after accepted callNode callSteps owned started sample opOf play played step rule ready commit incoming decide at numbered ownerBorn signalWaits pairHasRoom numberFree sound shaped viewSound view behavioursOf code setOf has members standing runningSound rowSound receives fits runs runsLive runsOp closes arrives exits operand instruction operandInRange inRange hasClauses targetsFree wellPlaced codeSound isNumber fitsInt messages joined without emptied signals oldest pushed popped register withRegister moved advanced trapped linksTo linked unlinked withPeer withoutPeer lowestPeer ended gone kindsOf
 late-steps = refl
 
 pub mixed-steps : accepted started mixed ≡ run 1 ∷ run 1 ∷ run 1 ∷ run 1 ∷ arrive 2 1 ∷ run 2 ∷ run 2 ∷ []
-unfolding early late mixed finish stands after accepted callNode callSteps owned started sample opOf play played step rule ready commit incoming decide at numbered ownerBorn signalWaits pairHasRoom numberFree sound shaped viewSound view behavioursOf code linkSet standing runningSound rowSound receives fits runs runsLive runsOp closes arrives exits operand instruction operandInRange inRange hasClauses targetsFree wellPlaced codeSound isNumber fitsInt messages joined without emptied signals oldest pushed popped register withRegister moved advanced trapped linksTo linked unlinked ended gone kindsOf
+unfolding early late mixed finish stands after accepted callNode callSteps owned started sample opOf play played step rule ready commit incoming decide at numbered ownerBorn signalWaits pairHasRoom numberFree sound shaped viewSound view behavioursOf code setOf has members standing runningSound rowSound receives fits runs runsLive runsOp closes arrives exits operand instruction operandInRange inRange hasClauses targetsFree wellPlaced codeSound isNumber fitsInt messages joined without emptied signals oldest pushed popped register withRegister moved advanced trapped linksTo linked unlinked withPeer withoutPeer lowestPeer ended gone kindsOf
 mixed-steps = refl
 
 -- different orders, equal ends

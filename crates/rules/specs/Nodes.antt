@@ -17,6 +17,7 @@ use Rattle.node.specs.declared.Mailbox.{Mailbox}
 use Rattle.node.specs.declared.Message.{Message}
 use Rattle.node.specs.declared.Node.{Node}
 use Rattle.node.specs.declared.Op.{Op}
+use Rattle.node.specs.declared.Peers.{Peers}
 use Rattle.node.specs.declared.Process.{Process}
 use Rattle.node.specs.declared.Row.{Row}
 use Rattle.node.specs.declared.Signal.{Signal}
@@ -27,8 +28,8 @@ use Rattle.node.specs.declared.Value.{Value}
 use Rattle.node.specs.Lists.{firsts, rising, allFrom, allOf}
 use Rattle.node.specs.Mailboxes.{messages, sixteenSlots}
 use Rattle.node.specs.Nodes.{noOp, noProcess, noMailbox, noRow, pair}
-use Rattle.node.specs.Processes.{linksTo, sixteenLinks}
 use Rattle.node.specs.Rows.{fourCells, signals}
+use Rattle.node.specs.Sets.{has}
 use Rattle.rules.specs.Behaviours.{Instruction, instruction, onClause, codeSound}
 use Rattle.rules.specs.Values.{numbers, isNumber, valueSound, messageSound}
 
@@ -48,9 +49,9 @@ row n j i = getD (n .flight) (pair j i) noRow
 
 -- ---- the node that a record holds
 
--- a link set, as the test of its members
-unfoldable pub linkSet : Process → ℕ → Bool
-linkSet p j = isNumber j && linksTo p j
+-- a set of processes, as the test of its members
+unfoldable pub setOf : Peers → ℕ → Bool
+setOf s j = isNumber j && has s j
 
 -- "live: behaviour number, place (program counter), registers r0 to r3, trap flag, link set, mailbox"
 pub record Running : Type 0 where
@@ -69,12 +70,12 @@ pub data Standing : Type 0 where
   gone : Standing
 
 abbrev pub running : Process → Mailbox → Running
-running p m = record { behaviour = p .behaviour .0; place = p .place; registers = p .r0 ∷ p .r1 ∷ p .r2 ∷ p .r3 ∷ []; trap = p .trap; links = linkSet p; mail = messages m }
+running p m = record { behaviour = p .behaviour .0; place = p .place; registers = p .r0 ∷ p .r1 ∷ p .r2 ∷ p .r3 ∷ []; trap = p .trap; links = setOf (p .links); mail = messages m }
 
 abbrev pub standingIn : Stage → Process → Mailbox → Standing
 standingIn Unborn p m = unborn
 standingIn Live p m = live (running p m)
-standingIn Closing p m = closing (p .reason) (linkSet p)
+standingIn Closing p m = closing (p .reason) (setOf (p .links))
 standingIn Gone p m = gone
 
 unfoldable pub standing : Process → Mailbox → Standing
@@ -142,7 +143,7 @@ unfoldable pub shaped : Node → Bool
 shaped n =
     eqb (length (n .lens)) 8
     && eqb (length (n .ops)) 256
-    && eqb (length (n .processes)) 16 && allOf sixteenLinks (n .processes)
+    && eqb (length (n .processes)) 16
     && eqb (length (n .mail)) 16 && allOf sixteenSlots (n .mail)
     && eqb (length (n .flight)) 256 && allOf fourCells (n .flight)
 

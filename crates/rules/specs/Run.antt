@@ -4,8 +4,8 @@
 --   runs code i st       what a run of process i does; code is that of its behaviour
 use mathlib.Core.Bool.{Bool, true, false, cond}
 use mathlib.Core.List.{List, [], _∷_}
-use mathlib.Core.Option.{Option, none, some}
-use Prim.Native.Nat.{ℕ}
+use mathlib.Core.Option.{none, some}
+use Prim.Native.Nat.{ℕ, zero, suc}
 use lib.Dec.{leb, eqb}
 use lib.IntN.{_+ℤ_}
 use lib.ListN.{length, getD}
@@ -17,12 +17,13 @@ use Rattle.node.specs.declared.Stage.the-variants.{Unborn, Live, Closing, Gone}
 use Rattle.node.specs.declared.Value.{Value}
 use Rattle.node.specs.declared.Value.the-variants.{Int, Atom, Pid}
 use Rattle.node.specs.Nodes.{noOp}
-use Rattle.node.specs.Processes.{fresh, register, withRegister, moved, advanced, trapped, linksTo, linked, unlinked, gone}
+use Rattle.node.specs.Processes.{fresh, register, withRegister, moved, advanced, trapped, linked, unlinked, gone}
+use Rattle.node.specs.Sets.{lowestPeer}
 use Rattle.node.specs.Values.{normal, badarg, badarith, pid}
 use Rattle.rules.specs.Answers.{Answer, refused, done, ownerUnborn, ownerGone}
 use Rattle.rules.specs.Effects.{State, Effect, becomes, ends, sends}
 use Rattle.rules.specs.Receive.{receives}
-use Rattle.rules.specs.Values.{numbers, fitsInt, sameValue}
+use Rattle.rules.specs.Values.{fitsInt, sameValue}
 
 -- "unless said, the place rises by 1"
 abbrev pub setsRegister : State → ℕ → Value → Answer Effect
@@ -91,18 +92,13 @@ opTable code i st o =
 unfoldable pub runsOp : List Op → ℕ → State → Op → Answer Effect
 runsOp code i st o = getD (opTable code i st o) (o .number) (ends st (register (st .process) (o .r)))  -- stop,r
 
--- the first of the given numbers that passes a test
-abbrev pub lowest : (ℕ → Bool) → List ℕ → Option ℕ
-lowest f [] = none
-lowest f (k ∷ l) = cond (f k) (some k) (lowest f l)
-
 -- "sends exit(v,1) to its lowest-numbered link and drops it from the set; with no links it goes gone"
-abbrev pub closesTo : State → Option ℕ → Answer Effect
-closesTo st none = becomes st (gone (st .process))
-closesTo st (some j) = sends st (unlinked (st .process) j) j (Exit (st .process .reason) true)
+abbrev pub closesTo : State → ℕ → Answer Effect
+closesTo st zero = becomes st (gone (st .process))
+closesTo st (suc j) = sends st (unlinked (st .process) (suc j)) (suc j) (Exit (st .process .reason) true)
 
 unfoldable pub closes : State → Answer Effect
-closes st = closesTo st (lowest (linksTo (st .process)) numbers)
+closes st = closesTo st (lowestPeer (st .process .links))
 
 -- "At place N the process ends with a0. Otherwise the op decides"
 unfoldable pub runsLive : List Op → ℕ → State → Answer Effect

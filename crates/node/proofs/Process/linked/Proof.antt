@@ -4,12 +4,15 @@ use borrow.Author.Needs.{needs}
 use Rattle.node.proofs.Process.linked.Statement.{statement}
 use Rattle.node.proofs.Process.linked.Tie as tie
 
-with-link-requires : tie.Need-with-link-requires
-with-link-requires c κs = search needs
+with-requires : tie.Need-with-requires
+with-requires c κs = search needs
+
+with-links-requires : tie.Need-with-links-requires
+with-links-requires c κs = search needs
 
 returns : tie.Need-returns
 unfolding linked
-returns c = c .with-link .ensures
+returns c = cc
 
 pub linked-spec : {M : Type 1} → statement M
-linked-spec = tie.close (tie.spec with-link-requires returns)
+linked-spec = tie.close (tie.spec with-requires with-links-requires returns)

@@ -4,12 +4,15 @@ use borrow.Author.Needs.{needs}
 use Rattle.node.proofs.Process.unlinked.Statement.{statement}
 use Rattle.node.proofs.Process.unlinked.Tie as tie
 
-with-link-requires : tie.Need-with-link-requires
-with-link-requires c κs = search needs
+without-requires : tie.Need-without-requires
+without-requires c κs = search needs
+
+with-links-requires : tie.Need-with-links-requires
+with-links-requires c κs = search needs
 
 returns : tie.Need-returns
 unfolding unlinked
-returns c = c .with-link .ensures
+returns c = cc
 
 pub unlinked-spec : {M : Type 1} → statement M
-unlinked-spec = tie.close (tie.spec with-link-requires returns)
+unlinked-spec = tie.close (tie.spec without-requires with-links-requires returns)
