@@ -9,18 +9,16 @@ use lib.Dec.{ltb}
 use lib.ListN.{length, take, length-replicate}
 use lib.Seq.{length-take-le}
 use Rattle.node.proofs.Lists.{firsts-length}
-use Rattle.rules.specs.Answers.{tooLong}
-use Rattle.schedule.specs.declared.Line.{Line}
-use Rattle.schedule.specs.declared.Line.the-variants.{Malformed, Step}
+use Rattle.rules.specs.Answers.{Answer, refused, done, tooLong}
 use Rattle.schedule.specs.declared.Schedule.{Schedule}
 use Rattle.schedule.specs.Reading.{malformedLine, readLines, firstMalformed, stepsOf, refusedText, acceptedSteps, ofLines, scheduleOf}
 use Rattle.text.specs.Parts.{linesOf}
 
-steps-fewer : (ls : List Line) → length (stepsOf ls) ≤ length ls
+steps-fewer : (ls : List (Answer ℕ)) → length (stepsOf ls) ≤ length ls
 unfolding stepsOf
 steps-fewer [] = omega arith
-steps-fewer (Malformed ∷ ls) = omega (arith, steps-fewer ls)
-steps-fewer (Step s ∷ ls) = omega (arith, steps-fewer ls)
+steps-fewer (refused k ∷ ls) = omega (arith, steps-fewer ls)
+steps-fewer (done s ∷ ls) = omega (arith, steps-fewer ls)
 
 -- the steps fit the array, which has 4,096 entries
 abbrev Fits : Schedule → Type 0
@@ -34,7 +32,7 @@ accepted-fits : (l : List ℕ) → length l ≤ 4096 → Fits (acceptedSteps l)
 unfolding acceptedSteps
 accepted-fits l h = (h, firsts-length 0 4096 l)
 
-lines-fit : (ls : List Line) → Fits (ofLines ls)
+lines-fit : (ls : List (Answer ℕ)) → Fits (ofLines ls)
 unfolding ofLines
 lines-fit ls = go (ltb 0 (firstMalformed 1 ls)) (ltb 4096 (length ls)) refl
   where

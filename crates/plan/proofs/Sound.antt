@@ -79,15 +79,15 @@ module _ (codes : List (List Instruction)) where
       go (yes e) = rw e (set-read (Stand i) noProcess ps k p (none-stands i) (h i))
       go (no d) = rw (getD-set-other ps k (i - 1) p noProcess d) (all i n)
 
-  started-stands : So (allOf (codeSound (length codes)) codes) → (s : Start) → So (startKept (length codes) s) → (i : ℕ) → Stand i (fresh (record { 0 = s .behaviour }) intZero)
+  started-stands : So (allOf (codeSound (length codes)) codes) → (s : Start) → So (startKept (length codes) s) → (i : ℕ) → Stand i (fresh (s .behaviour) intZero)
   unfolding emptied fitsInt
-  started-stands sounds s h i = fresh-sound codes sounds i (record { 0 = s .behaviour }) intZero emptyMailbox (parts (isNumber (s .process)) _ h .1) refl
+  started-stands sounds s h i = fresh-sound codes sounds i (s .behaviour) intZero emptyMailbox (parts (isNumber (s .process .0)) _ h .1) refl
 
   starts-stand : So (allOf (codeSound (length codes)) codes) → (n : Node) (starts : List Start) → So (allOf (startKept (length codes)) starts) → Stands (n .processes) → Stands (withEach withStart n starts .processes)
   starts-stand sounds n [] h all = all
   starts-stand sounds n (s ∷ starts) h all =
       let w = parts (startKept (length codes) s) (allOf (startKept (length codes)) starts) h in
-      starts-stand sounds (withStart n s) starts (w .1) (one-more (n .processes) (s .process - 1) (fresh (record { 0 = s .behaviour }) intZero) all (started-stands sounds s (w .0)))
+      starts-stand sounds (withStart n s) starts (w .1) (one-more (n .processes) (s .process .0 - 1) (fresh (s .behaviour) intZero) all (started-stands sounds s (w .0)))
 
 -- ---- a node without mail and signals
 
@@ -152,7 +152,7 @@ plan-sound p k none =
     let placed = subst (λ (bs : List (List Instruction)). So (allOf (λ (code : List Instruction). allFrom (wellPlaced code) 0 code) bs)) is (misplaced-none firstCode (behavioursOf n) none) in
     let sounds : So (allOf (codeSound (length (behavioursOf n))) (behavioursOf n)) =
     subst (λ (bs : List (List Instruction)). So (allOf (codeSound (length (behavioursOf n))) bs)) (sym is) (subst (λ (c : ℕ). So (allOf (codeSound c) (map (map instruction) (p .codes)))) (sym size) (codes-sound (length (p .codes)) (p .codes) (k .codes) placed)) in
-    quiet-sound n (plan-keeps (λ (n : Node). length (n .processes)) (λ n s. length-set (n .processes) (s .process - 1) _) (λ n code. refl) p) (plan-keeps (λ (n : Node). n .mail) (λ n s. refl) (λ n code. refl) p) (plan-keeps (λ (n : Node). n .flight) (λ n s. refl) (λ n code. refl) p)
+    quiet-sound n (plan-keeps (λ (n : Node). length (n .processes)) (λ n s. length-set (n .processes) (s .process .0 - 1) _) (λ n code. refl) p) (plan-keeps (λ (n : Node). n .mail) (λ n s. refl) (λ n code. refl) p) (plan-keeps (λ (n : Node). n .flight) (λ n s. refl) (λ n code. refl) p)
     (both (le-leb 1 (length (behavioursOf n)) (omega (arith, size, k .least))) (le-leb (length (behavioursOf n)) 8 (omega (arith, size, k .most))))
     sounds
     (plan-stands p (behavioursOf n) sounds (subst (λ (c : ℕ). So (allOf (startKept c) (p .starts))) (sym size) (k .starts)))
