@@ -1,15 +1,16 @@
 -- How long the program's answers are at most, whatever its two texts are. Assumes nothing.
 --   program-short   what is printed has at most `longestAnswer` bytes
---   program-told    so a buffer of that length takes it: `simulate` never tells 30 there
+--   program-told program-answered   so a buffer of that length takes it: `simulate` never tells 30 there
 use mathlib.Core.Bool.{Bool, true, false, cond}
 use mathlib.Core.List.{List, [], _∷_, _++_}
-use mathlib.Core.Path.{_≡_}
+use mathlib.Core.Path.{_≡_, sym, _∙_, ap}
 use Prim.Native.Nat.{ℕ, _≤_}
 use native.Mathlib.Omega.{arith}
 use lib.Dec.{eqb}
 use lib.ListN.{length, drop}
 use Rattle.listing.proofs.Laws.{told-fits}
 use Rattle.listing.proofs.Listings.{listing-short}
+use Rattle.listing.specs.declared.Listed.{Listed}
 use Rattle.listing.specs.Answers.{told, shown}
 use Rattle.listing.specs.Listing.{listingOf}
 use Rattle.listing_lines.proofs.Longest.{Within, _⊕_, exactly, loosely, digits-within, numberLine-within}
@@ -61,3 +62,12 @@ module _ (plan steps : List ℕ) where
       → (told old (programText plan steps) ≡ record { number = 0; length = length (programText plan steps) })
       × (shown old (programText plan steps) ≡ programText plan steps ++ drop (length (programText plan steps)) old)
   program-told old h = told-fits old (programText plan steps) (omega (arith, program-short))
+
+  -- the answer of `simulate` into such a buffer: 0, the whole text and its length
+  pub program-answered : (old : List ℕ) {x : Listed} {m : List ℕ} → longestAnswer ≤ length old
+      → (x ≡ told old (programText plan steps)) × (m ≡ shown old (programText plan steps))
+      → (x .length ≡ length (programText plan steps)) × (m ≡ programText plan steps ++ drop (x .length) old)
+  program-answered old {x} h p =
+      let t = program-told old h in
+      let e : x .length ≡ length (programText plan steps) = ap (λ (y : Listed). y .length) (p .0 ∙ t .0) in
+      (e, p .1 ∙ t .1 ∙ ap (λ (k : ℕ). programText plan steps ++ drop k old) (sym e))
