@@ -204,7 +204,7 @@ unfolding decide
 decide-told n (run i) = runs-told _ i _
 decide-told n (arrive i j) = arrives-told i j _ _
 
-rule-told : (n : Node) (a : Action) → Told Ruled (rule n a)
+pub rule-told : (n : Node) (a : Action) → Told Ruled (rule n a)
 unfolding rule ready
 rule-told n a =
     goOn-ruled (ready n a) _
