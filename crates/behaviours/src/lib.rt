@@ -7,7 +7,9 @@ ghost use Rattle.node.specs.Values.{intZero};
 ghost use Rattle.rules.specs.Behaviours.{codeSound, dueNext, inRange, instruction};
 ghost use Rattle.rules.specs.Values.{isNumber, valueSound};
 ghost use Rattle.behaviours.specs.Codes.{codesIn, hasTarget, placedBy};
+use node::BehaviourNumber;
 use node::Op;
+use node::ProcessNumber;
 use node::Value;
 
 // All behaviours, of which there are `count`, in one loop over their ops: a call that takes `ops` copies 4 KB.
@@ -114,7 +116,7 @@ pub fn in_range(op: Op, count: u8, len: u8) -> bool
         6 => op.r <= 3,
         7 => op.r <= 3,
         8 => op.small <= 1,
-        9 => register_and_numbers(op.r, b.0, q.0, count),
+        9 => register_and_numbers(op.r, b, q, count),
         10 => within(op.small, 1, 8),
         11 => {
             if !clause_kind_sound(op.small, v) {
@@ -163,16 +165,16 @@ fn register_and_value(r: u8, v: Value) -> bool
 }
 
 // The register, the behaviour and the process of a spawn.
-fn register_and_numbers(r: u8, b: u8, q: u8, count: u8) -> bool
-    ensures { λ x. ⌜ x ≡ (leb r 3 && (leb 1 b && leb b count) && isNumber q) ⌝ }
+fn register_and_numbers(r: u8, b: BehaviourNumber, q: ProcessNumber, count: u8) -> bool
+    ensures { λ x. ⌜ x ≡ (leb r 3 && (leb 1 (b .0) && leb (b .0) count) && isNumber (q .0)) ⌝ }
 {
     if 3 < r {
         return false;
     }
-    if !within(b, 1, count) {
+    if !within(b.0, 1, count) {
         return false;
     }
-    is_number(q)
+    is_number(q.0)
 }
 
 // The kind of a clause; kind 5 has one exact value.

@@ -3,6 +3,7 @@
 --   playedText r             what is printed of a play: the count, the refusal and the listing of the node
 --   steps s                  the steps of an accepted steps text, as actions
 --   programText plan steps   what is printed for a plan text and a steps text
+--   longestAnswer            no plan text and steps text have a longer answer
 use mathlib.Core.Bool.{cond}
 use mathlib.Core.List.{List, [], _∷_, _++_, map}
 use Prim.Native.Nat.{ℕ}
@@ -50,3 +51,7 @@ afterLoad l s =
 
 unfoldable pub programText : List ℕ → List ℕ → List ℕ
 programText planText stepsText = afterLoad (loadOf planText) (scheduleOf stepsText)
+
+-- a listing of at most 39,952 bytes and two short lines before it, or one short line
+abbrev pub longestAnswer : ℕ
+longestAnswer = 40960

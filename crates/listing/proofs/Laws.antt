@@ -1,9 +1,10 @@
 -- Laws of the listing's text, in the form in which its writers meet them. Assumes nothing.
 --   left-process left-processes-end   a turn and the end of the loop over processes
 --   told-short told-whole             a buffer that is shorter than the listing, and one that holds it
+--   told-fits                         what is told and shown where the buffer holds the text
 --   list-refused list-allowed         a node that is not sound, and one that is
 use mathlib.Core.Bool.{Bool, true, false}
-use mathlib.Core.List.{List}
+use mathlib.Core.List.{List, _++_}
 use mathlib.Core.Path.{_≡_, ap, _∙_}
 use Prim.Native.Nat.{ℕ, _+_, _≤_, _<_}
 use native.Mathlib.Nat.{add-sub-cancel-left}
@@ -54,6 +55,10 @@ module _ (n : Node) (k : ℕ) {o text m : List ℕ} {a e : ℕ} where
 
 -- ---- the answer
 module _ (o text : List ℕ) where
+  pub told-fits : length text ≤ length o → (told o text ≡ record { number = 0; length = length text }) × (shown o text ≡ text ++ drop (length text) o)
+  unfolding told shown
+  told-fits h = let fits = le-ltb (length o) (length text) h in (rw fits, rw fits)
+
   pub told-short : length o < length text → (refusedWith outputShort ≡ told o text) × (o ≡ shown o text)
   unfolding told shown
   told-short h = (simp (lt-ltb (length o) (length text) h), simp (lt-ltb (length o) (length text) h))

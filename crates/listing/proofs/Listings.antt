@@ -6,7 +6,7 @@ use mathlib.Core.List.{List, _++_, map}
 use mathlib.Core.Path.{_≡_, ap}
 use Prim.Native.Nat.{ℕ, _*_, _≤_}
 use native.Mathlib.Omega.{arith}
-use borrow.Author.Tests.{leb-true, le-ltb}
+use borrow.Author.Tests.{leb-true}
 use lib.Dec.{leb}
 use lib.ListN.{length, drop}
 use Rattle.node.specs.declared.Node.{Node}
@@ -19,6 +19,7 @@ use Rattle.listing_lines.proofs.Longest.{Within, _⊕_, made-within, longestPro
 use Rattle.listing_lines.specs.Lines.{standingText, pairText}
 use Rattle.listing.specs.Answers.{told, shown}
 use Rattle.listing.specs.Listing.{rowsText, listingText, listingOf, longest}
+use Rattle.listing.proofs.Laws.{told-fits}
 
 pub listing-equal : (n m : Node) → Equal n m → listingOf n ≡ listingOf m
 unfolding listingOf
@@ -43,7 +44,4 @@ module _ (n : Node) (sound : Sound n) where
   -- a buffer of that length is never short
   pub listing-told : (old : List ℕ) → longest ≤ length old
       → (told old (listingOf n) ≡ record { number = 0; length = length (listingOf n) }) × (shown old (listingOf n) ≡ listingOf n ++ drop (length (listingOf n)) old)
-  unfolding told shown
-  listing-told old h =
-      let fits = le-ltb (length old) (length (listingOf n)) (omega (arith, listing-short)) in
-      (rw fits, rw fits)
+  listing-told old h = told-fits old (listingOf n) (omega (arith, listing-short))

@@ -3,6 +3,7 @@
 use listing_lines::put_pair;
 use listing_lines::put_process;
 use node::Node;
+use node::ProcessNumber;
 ghost use mathlib.Core.Path.{_≡_};
 ghost use Rattle.rules.specs.Nodes.{view};
 ghost use Rattle.text.specs.Writing.{Wrote};
@@ -67,7 +68,13 @@ fn put_processes(out: &mut [u8], at: usize, n: Node) -> usize
     let mut e = at;
     let mut i = 0;
     while i < 16 {
-        e = put_process(out, e, (i as u64) + 1, n.processes[i], n.mail[i]);
+        e = put_process(
+            out,
+            e,
+            ProcessNumber((i as u8) + 1),
+            n.processes[i],
+            n.mail[i],
+        );
         i += 1;
     }
     e
@@ -83,8 +90,8 @@ fn put_flights(out: &mut [u8], at: usize, n: Node) -> usize
         e = put_pair(
             out,
             e,
-            (k / 16 + 1) as u64,
-            (k % 16 + 1) as u64,
+            ProcessNumber((k / 16 + 1) as u8),
+            ProcessNumber((k % 16 + 1) as u8),
             n.flight[k],
         );
         k += 1;

@@ -1,5 +1,6 @@
 -- How long the texts of a sound node's parts are at most. Assumes nothing.
 --   Within s k          s has at most k bytes;  _⊕_ joins two texts
+--   digits-within       a number below 10 ^ (k + 1);  numberLine-within  a line with a key and a number
 --   each-within         the texts of a list of which each passes a test
 --   made-within         the texts of a list made over i, i + 1, ..
 --   longestProcess      what the text of a process has at most;  standing-within  it does
@@ -54,7 +55,7 @@ pub loosely : {s : List ℕ} {a : ℕ} (b : ℕ) → a ≤ b → Within s a → 
 loosely b h p = record { most = omega (arith, p .most) }
 
 -- ---- numbers and values
-digits-within : (k n : ℕ) → n < 10 ^ suc k → Within (digits n) (suc k)
+pub digits-within : (k n : ℕ) → n < 10 ^ suc k → Within (digits n) (suc k)
 digits-within k n h = record { most = digits-length k n h }
 
 one-digit : (n : ℕ) → n < 10 → Within (digits n) 1
@@ -84,7 +85,7 @@ module _ (key : List ℕ) where
   line-within : {s : List ℕ} {k : ℕ} → Within s k → Within (key ++ s ++ lineEnd) (length key + k + 1)
   line-within p = exactly key ⊕ p ⊕ exactly lineEnd
 
-  numberLine-within : (n : ℕ) {k : ℕ} → Within (digits n) k → Within (numberLine key n) (length key + k + 1)
+  pub numberLine-within : (n : ℕ) {k : ℕ} → Within (digits n) k → Within (numberLine key n) (length key + k + 1)
   unfolding numberLine
   numberLine-within n p = line-within p
 

@@ -23,8 +23,8 @@ ghost use Rattle.text.specs.Writing.{Wrote, digits, each};
 ghost use Rattle.listing_lines.specs.Lines.{comma, numberLine, valueLine, eachFrom, flag, members, withCommas, linksLine, registerLine, messageLine, mailText, standingText, signalLine, flightLine, pairText};
 
 // Process i with its mailbox; an unborn process has no text.
-pub fn put_process(out: &mut [u8], at: usize, i: u64, p: Process, m: Mailbox) -> usize
-    ensures { λ e. ⌜ Wrote (now (out .entry)) at (standingText i (standing p m)) (now (out .exit)) e ⌝ }
+pub fn put_process(out: &mut [u8], at: usize, i: ProcessNumber, p: Process, m: Mailbox) -> usize
+    ensures { λ e. ⌜ Wrote (now (out .entry)) at (standingText (i .0) (standing p m)) (now (out .exit)) e ⌝ }
 {
     let stage = p.stage;
     match stage {
@@ -36,8 +36,8 @@ pub fn put_process(out: &mut [u8], at: usize, i: u64, p: Process, m: Mailbox) ->
 }
 
 // The signals in flight from process j to process i; a pair with none has no text.
-pub fn put_pair(out: &mut [u8], at: usize, j: u64, i: u64, r: Row) -> usize
-    ensures { λ e. ⌜ Wrote (now (out .entry)) at (pairText j i (signals r)) (now (out .exit)) e ⌝ }
+pub fn put_pair(out: &mut [u8], at: usize, j: ProcessNumber, i: ProcessNumber, r: Row) -> usize
+    ensures { λ e. ⌜ Wrote (now (out .entry)) at (pairText (j .0) (i .0) (signals r)) (now (out .exit)) e ⌝ }
 {
     let count = r.count;
     if count == 0 {
@@ -47,10 +47,10 @@ pub fn put_pair(out: &mut [u8], at: usize, j: u64, i: u64, r: Row) -> usize
     put_signals(out, e, r)
 }
 
-fn put_live(out: &mut [u8], at: usize, i: u64, p: Process, m: Mailbox) -> usize
-    ensures { λ e. ⌜ Wrote (now (out .entry)) at (standingText i (live (running p m))) (now (out .exit)) e ⌝ }
+fn put_live(out: &mut [u8], at: usize, i: ProcessNumber, p: Process, m: Mailbox) -> usize
+    ensures { λ e. ⌜ Wrote (now (out .entry)) at (standingText (i .0) (live (running p m))) (now (out .exit)) e ⌝ }
 {
-    let e = put_number_line(out, at, b"process=", i);
+    let e = put_number_line(out, at, b"process=", i.0 as u64);
     let e = put_bytes(out, e, b"stage=live\n");
     let e = put_number_line(out, e, b"behaviour=", p.behaviour.0 as u64);
     let e = put_number_line(out, e, b"place=", p.place as u64);
@@ -60,20 +60,20 @@ fn put_live(out: &mut [u8], at: usize, i: u64, p: Process, m: Mailbox) -> usize
     put_mail(out, e, m)
 }
 
-fn put_closing(out: &mut [u8], at: usize, i: u64, p: Process) -> usize
-    ensures { λ e. ⌜ Wrote (now (out .entry)) at (standingText i (closing (p .reason) (linkSet p))) (now (out .exit)) e ⌝ }
+fn put_closing(out: &mut [u8], at: usize, i: ProcessNumber, p: Process) -> usize
+    ensures { λ e. ⌜ Wrote (now (out .entry)) at (standingText (i .0) (closing (p .reason) (linkSet p))) (now (out .exit)) e ⌝ }
 {
     let reason = p.reason;
-    let e = put_number_line(out, at, b"process=", i);
+    let e = put_number_line(out, at, b"process=", i.0 as u64);
     let e = put_bytes(out, e, b"stage=closing\n");
     let e = put_value_line(out, e, b"reason=", reason);
     put_links(out, e, p)
 }
 
-fn put_gone(out: &mut [u8], at: usize, i: u64) -> usize
-    ensures { λ e. ⌜ Wrote (now (out .entry)) at (standingText i gone) (now (out .exit)) e ⌝ }
+fn put_gone(out: &mut [u8], at: usize, i: ProcessNumber) -> usize
+    ensures { λ e. ⌜ Wrote (now (out .entry)) at (standingText (i .0) gone) (now (out .exit)) e ⌝ }
 {
-    let e = put_number_line(out, at, b"process=", i);
+    let e = put_number_line(out, at, b"process=", i.0 as u64);
     put_bytes(out, e, b"stage=gone\n")
 }
 
@@ -106,7 +106,7 @@ fn put_members(out: &mut [u8], at: usize, p: Process) -> usize
     let mut k = 0;
     while k < 16 {
         let linked = p.links[k];
-        e = put_member(out, e, linked, later, (k as u64) + 1);
+        e = put_member(out, e, linked, later, ProcessNumber((k as u8) + 1));
         later = later | linked;
         k += 1;
     }
@@ -114,15 +114,15 @@ fn put_members(out: &mut [u8], at: usize, p: Process) -> usize
 }
 
 // Process j, where it is a link; a comma stands before all but the first.
-fn put_member(out: &mut [u8], at: usize, linked: bool, later: bool, j: u64) -> usize
-    ensures { λ e. ⌜ Wrote (now (out .entry)) at (cond linked (cond later (comma ++ digits j) (digits j)) []) (now (out .exit)) e ⌝ }
+fn put_member(out: &mut [u8], at: usize, linked: bool, later: bool, j: ProcessNumber) -> usize
+    ensures { λ e. ⌜ Wrote (now (out .entry)) at (cond linked (cond later (comma ++ digits (j .0)) (digits (j .0))) []) (now (out .exit)) e ⌝ }
 {
     if linked {
         if later {
             let e = put_byte(out, at, b',');
-            return put_number(out, e, j);
+            return put_number(out, e, j.0 as u64);
         }
-        return put_number(out, at, j);
+        return put_number(out, at, j.0 as u64);
     }
     at
 }
@@ -166,13 +166,13 @@ fn put_note(out: &mut [u8], at: usize, j: ProcessNumber, v: Value) -> usize
     put_byte(out, e, b'\n')
 }
 
-fn put_flight_line(out: &mut [u8], at: usize, j: u64, i: u64, n: u64) -> usize
-    ensures { λ e. ⌜ Wrote (now (out .entry)) at (flightLine j i n) (now (out .exit)) e ⌝ }
+fn put_flight_line(out: &mut [u8], at: usize, j: ProcessNumber, i: ProcessNumber, n: u64) -> usize
+    ensures { λ e. ⌜ Wrote (now (out .entry)) at (flightLine (j .0) (i .0) n) (now (out .exit)) e ⌝ }
 {
     let e = put_bytes(out, at, b"flight=");
-    let e = put_number(out, e, j);
+    let e = put_number(out, e, j.0 as u64);
     let e = put_byte(out, e, b',');
-    let e = put_number(out, e, i);
+    let e = put_number(out, e, i.0 as u64);
     let e = put_byte(out, e, b',');
     let e = put_number(out, e, n);
     put_byte(out, e, b'\n')

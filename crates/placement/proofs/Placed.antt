@@ -1,10 +1,12 @@
 -- Where no line is told of 14, every op is well placed; and behaviours that are sound have no such line. Assumes nothing.
+--   misplaced-none misplaced-sound   as said
+--   misplaced-most                   the line that is told is one of the lines of the codes
 use mathlib.Core.Bool.{Bool, true, false, So, cond, _&&_}
 use mathlib.Core.List.{List, [], _∷_}
 use mathlib.Core.Path.{_≡_, refl}
-use Prim.Native.Nat.{ℕ, _+_, _<_}
+use Prim.Native.Nat.{ℕ, _+_, _*_, _≤_, _<_}
 use native.Mathlib.Omega.{arith}
-use borrow.Author.Tests.{eqb-true, eqb-false}
+use borrow.Author.Tests.{eqb-true, eqb-false, leb-true}
 use lib.Dec.{eqb, leb}
 use lib.ListN.{length}
 use Rattle.node.specs.Lists.{allFrom, allOf}
@@ -50,3 +52,26 @@ misplaced-sound c n (code ∷ codes) h =
     let placed : Bool = allFrom (λ t x. inRange c (length code) x && wellPlaced code t x) 0 code in
     let first : misplacedIn code 0 (n + 1) code ≡ 0 = in-sound code c (length code) 0 (n + 1) code (parts (leb 1 (length code) && leb (length code) 32) placed (w .0) .1) in
     rw (first, misplaced-sound c (n + 1 + length code) codes (w .1))
+
+in-most : (code : List Instruction) (t n : ℕ) (xs : List Instruction) → misplacedIn code t n xs ≤ n + length xs
+unfolding misplacedIn
+in-most code t n [] = omega arith
+in-most code t n (x ∷ xs) = go (wellPlaced code t x) (in-most code (t + 1) (n + 1) xs)
+  where
+    go : (b : Bool) → misplacedIn code (t + 1) (n + 1) xs ≤ n + 1 + length xs → cond b (misplacedIn code (t + 1) (n + 1) xs) n ≤ n + length (x ∷ xs)
+    go true h = omega arith
+    go false h = omega arith
+
+-- a code has its line `code=` and at most 32 ops
+pub misplaced-most : (n : ℕ) (codes : List (List Instruction)) → So (allOf (λ (code : List Instruction). leb (length code) 32) codes) → misplacedFrom n codes ≤ n + 33 * length codes
+unfolding misplacedFrom
+misplaced-most n [] h = omega arith
+misplaced-most n (code ∷ codes) h =
+    let w = parts (leb (length code) 32) _ h in
+    let short = leb-true (length code) 32 (w .0) in
+    go (eqb (misplacedIn code 0 (n + 1) code) 0) short (misplaced-most (n + 1 + length code) codes (w .1))
+  where
+    go : (b : Bool) → length code ≤ 32 → misplacedFrom (n + 1 + length code) codes ≤ n + 1 + length code + 33 * length codes
+        → cond b (misplacedFrom (n + 1 + length code) codes) (misplacedIn code 0 (n + 1) code) ≤ n + 33 * length (code ∷ codes)
+    go true l next = omega arith
+    go false l next = omega (arith, in-most code 0 (n + 1) code)

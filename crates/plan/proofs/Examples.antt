@@ -25,7 +25,7 @@ unfoldable pub opWith : ℕ → ℕ → ℕ → ℕ → ℕ → Value → Op
 opWith k r s t small v = record { number = k; r = r; s = s; target = t; small = small; value = v; process = record { 0 = 0 }; behaviour = record { 0 = 0 } }
 
 unfoldable pub startWith : ℕ → ℕ → Start
-startWith i b = record { refusal = 0; process = i; behaviour = b }
+startWith i b = record { refusal = 0; process = record { 0 = i }; behaviour = record { 0 = b } }
 
 unfoldable pub samplePlan : Plan
 samplePlan = record {

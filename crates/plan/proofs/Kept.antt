@@ -11,6 +11,7 @@ use borrow.Author.Tests.{le-leb, eqb-true}
 use lib.Dec.{eqb, leb}
 use lib.ListN.{length, length-append}
 use Rattle.node.specs.declared.Op.{Op}
+use Rattle.node.specs.declared.ProcessNumber.{ProcessNumber}
 use Rattle.node.specs.Lists.{allOf}
 use Rattle.rules.specs.Answers.{Answer, refused, done, need}
 use Rattle.rules.specs.Behaviours.{inRange, instruction}
@@ -22,7 +23,7 @@ use Rattle.plan_line.specs.declared.Start.{Start}
 use Rattle.plan_line.specs.Lines.{behavioursKey, codeKey, startsKey, answered, headerLine, countTold, countLine, opTold, opLine, startTold, startLine}
 use Rattle.plan_line.proofs.InRange.{op-kept}
 use Rattle.plan_line.proofs.Ranges.{count-kept, start-kept}
-use Rattle.plan.specs.Plans.{Plan, lastFrom, more, startMore, codeLines, startLines, planLines}
+use Rattle.plan.specs.Plans.{Plan, beforeFirst, lastFrom, more, startMore, codeLines, startLines, planLines}
 use Rattle.plan.specs.Reading.{Left, Read, bad, good, judged, firstOf, onLine, thenOn, times, nothingIn, endOf}
 use Rattle.plan.proofs.Whole.{countIn, codesIn, startsIn, endsIn}
 
@@ -30,7 +31,7 @@ abbrev pub codeKept : ℕ → List Op → Bool
 codeKept c code = leb 1 (length code) && leb (length code) 32 && allOf (λ (o : Op). inRange c (length code) (instruction o)) code
 
 abbrev pub startKept : ℕ → Start → Bool
-startKept c s = isNumber (s .process) && (leb 1 (s .behaviour) && leb (s .behaviour) c)
+startKept c s = isNumber (s .process .0) && (leb 1 (s .behaviour .0) && leb (s .behaviour .0) c)
 
 pub record PlanKept (p : Plan) : Type 0 where
   pub least : 1 ≤ length (p .codes)
@@ -97,7 +98,7 @@ op-read c n l {o} e =
     let kept = op-kept c n (w .0) (a .0) in
     subst (λ (y : Op). So (inRange c n (instruction y))) (a .1) (rw (← in-range-by (x .op) c n (kept .0)) (kept .1))
 
-start-read : (c last : ℕ) (l : Left) {s : Start} {k : Left} → onLine (startLine c last) l ≡ good s k → So (startKept c s)
+start-read : (c : ℕ) (last : ProcessNumber) (l : Left) {s : Start} {k : Left} → onLine (startLine c last) l ≡ good s k → So (startKept c s)
 unfolding startLine isNumber
 start-read c last l {s} e =
     let w = line-good (startLine c last) l e in
@@ -105,7 +106,7 @@ start-read c last l {s} e =
     let a = answered-done (x .refusal) x s (w .1) in
     let kept = start-kept c last (w .0) in
     subst (λ (y : Start). So (startKept c y)) (a .1)
-    (both (both (le-leb 1 (x .process) (kept .first (a .0))) (le-leb (x .process) 16 (kept .process))) (both (le-leb 1 (x .behaviour) (kept .least (a .0))) (le-leb (x .behaviour) c (kept .most (a .0)))))
+    (both (both (le-leb 1 (x .process .0) (kept .first (a .0))) (le-leb (x .process .0) 16 (kept .process))) (both (le-leb 1 (x .behaviour .0) (kept .least (a .0))) (le-leb (x .behaviour .0) c (kept .most (a .0)))))
 
 code-read : (c : ℕ) (l : Left) {code : List Op} {k : Left} → codeLines c l ≡ good code k → So (codeKept c code)
 unfolding codeLines
@@ -121,7 +122,7 @@ starts-read : (c : ℕ) (l : Left) {starts : List Start} {k : Left} → startLin
 unfolding startLines
 starts-read c l e =
     let w = then-good (onLine (countLine startsKey 1 16) l) (λ (n : ℕ) (r : Left). times n (startMore c) [] r) e in
-    times-kept (startKept c) (λ (ys : List Start). onLine (startLine c (lastFrom 0 ys))) (λ ys r x k. start-read c (lastFrom 0 ys) r) (w .0) [] (w .1) (w .3) refl .1
+    times-kept (startKept c) (λ (ys : List Start). onLine (startLine c (lastFrom beforeFirst ys))) (λ ys r x k. start-read c (lastFrom beforeFirst ys) r) (w .0) [] (w .1) (w .3) refl .1
 
 end-good : {A : Type 0} (a : A) (l : Left) (ls : List (List ℕ)) (rest : List ℕ) {b : A} {k : Left} → nothingIn a l ls rest ≡ good b k → a ≡ b
 end-good a l [] [] e = cc

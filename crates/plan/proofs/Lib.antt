@@ -6,3 +6,4 @@ pub mod Kept
 pub mod Behaviours
 pub mod Sound
 pub mod Examples
+pub mod Refusals

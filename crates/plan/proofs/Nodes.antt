@@ -7,6 +7,7 @@ use lib.ListN.{length, set, length-append}
 use lib.Seq.{sets, set-set}
 use Rattle.node.specs.declared.Node.{Node}
 use Rattle.node.specs.declared.Op.{Op}
+use Rattle.node.specs.declared.ProcessNumber.{ProcessNumber}
 use Rattle.node.specs.declared.Process.{Process}
 use Rattle.node.specs.Processes.{fresh}
 use Rattle.node.specs.Values.{intZero}
@@ -14,7 +15,7 @@ use Rattle.plan_line.specs.declared.Start.{Start}
 use Rattle.plan.specs.declared.Mark.{Mark}
 use Rattle.plan.specs.Marks.{leftAt, mapped, Reached}
 use Rattle.plan_line.specs.Lines.{startLine}
-use Rattle.plan.specs.Plans.{lastFrom, withOps, withCode, withStart, withEach}
+use Rattle.plan.specs.Plans.{beforeFirst, lastFrom, withOps, withCode, withStart, withEach}
 use Rattle.plan.specs.Reading.{onLine}
 use Rattle.plan.proofs.Loops.{mapped-same}
 
@@ -68,30 +69,30 @@ counted-code n ops e = rw e
 
 -- ---- starts
 -- a node with starts, and the process of the last
-abbrev pub begun : Node → List Start → Node × ℕ
-begun n starts = (withEach withStart n starts, lastFrom 0 starts)
+abbrev pub begun : Node → List Start → Node × ProcessNumber
+begun n starts = (withEach withStart n starts, lastFrom beforeFirst starts)
 
-last-more : (i : ℕ) (starts : List Start) (s : Start) → lastFrom i (starts ++ (s ∷ [])) ≡ s .process
+last-more : (i : ProcessNumber) (starts : List Start) (s : Start) → lastFrom i (starts ++ (s ∷ [])) ≡ s .process
 last-more i [] s = refl
 last-more i (t ∷ starts) s = last-more (t .process) starts s
 
-pub begun-more : (n : Node) (starts : List Start) {b b′ : Node} {i : ℕ} {y s : Start} → b′ ≡ withStart b y → _≡_ {A = Node × ℕ} (b, i) (begun n starts) → y ≡ s
-    → _≡_ {A = Node × ℕ} (b′, y .process) (begun n (starts ++ (s ∷ [])))
+pub begun-more : (n : Node) (starts : List Start) {b b′ : Node} {i : ProcessNumber} {y s : Start} → b′ ≡ withStart b y → _≡_ {A = Node × ProcessNumber} (b, i) (begun n starts) → y ≡ s
+    → _≡_ {A = Node × ProcessNumber} (b′, y .process) (begun n (starts ++ (s ∷ [])))
 begun-more n starts {b} {b′} {i} {y} {s} p q e =
     let node : b′ ≡ withEach withStart n (starts ++ (s ∷ [])) =
-    p ∙ ap (λ (a : Node × ℕ). withStart (a .0) y) q ∙ ap (withStart (withEach withStart n starts)) e ∙ each-more withStart n starts s in
-    let last : y .process ≡ lastFrom 0 (starts ++ (s ∷ [])) = ap (λ (x : Start). x .process) e ∙ sym (last-more 0 starts s) in
+    p ∙ ap (λ (a : Node × ProcessNumber). withStart (a .0) y) q ∙ ap (withStart (withEach withStart n starts)) e ∙ each-more withStart n starts s in
+    let last : y .process ≡ lastFrom beforeFirst (starts ++ (s ∷ [])) = ap (λ (x : Start). x .process) e ∙ sym (last-more beforeFirst starts s) in
     cc
 
 -- a process stored where it stands
-pub started : (n : Node) (s : Start) {k : ℕ} {p : Process} → k ≡ s .process - 1 → p ≡ fresh (record { 0 = s .behaviour }) intZero
+pub started : (n : Node) (s : Start) {k : ℕ} {p : Process} → k ≡ s .process .0 - 1 → p ≡ fresh (s .behaviour) intZero
     → record { count = n .count; lens = n .lens; ops = n .ops; processes = set (n .processes) k p; mail = n .mail; flight = n .flight } ≡ withStart n s
 started n s e f = rw (e, f)
 
 -- a start that was read behind the last one
-pub start-read : (s : List ℕ) (m : Mark) (c : ℕ) (n : Node) (starts : List Start) {b : Node} {i : ℕ} {x : Mark} {y : Start}
-    → Reached s x y (onLine (startLine c i) (leftAt s m)) → _≡_ {A = Node × ℕ} (b, i) (begun n starts)
-    → Reached s x y (mapped (λ (a : Start). a) (onLine (startLine c (lastFrom 0 starts)) (leftAt s m)))
+pub start-read : (s : List ℕ) (m : Mark) (c : ℕ) (n : Node) (starts : List Start) {b : Node} {i : ProcessNumber} {x : Mark} {y : Start}
+    → Reached s x y (onLine (startLine c i) (leftAt s m)) → _≡_ {A = Node × ProcessNumber} (b, i) (begun n starts)
+    → Reached s x y (mapped (λ (a : Start). a) (onLine (startLine c (lastFrom beforeFirst starts)) (leftAt s m)))
 start-read s m c n starts r e =
-    let last = ap (λ (a : Node × ℕ). onLine (startLine c (a .1)) (leftAt s m)) e in
+    let last = ap (λ (a : Node × ProcessNumber). onLine (startLine c (a .1)) (leftAt s m)) e in
     record { is = r .is ∙ last ∙ mapped-same _; within = r .within }

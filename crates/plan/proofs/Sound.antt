@@ -80,15 +80,15 @@ module _ (codes : List (List Instruction)) where
       go (yes e) = rw e (set-read (Stand i) noProcess ps k p (none-stands i) (h i))
       go (no d) = rw (getD-set-other ps k (i - 1) p noProcess d) (all i n)
 
-  started-stands : So (allOf (codeSound (length codes)) codes) → (s : Start) → So (startKept (length codes) s) → (i : ℕ) → Stand i (fresh (record { 0 = s .behaviour }) intZero)
+  started-stands : So (allOf (codeSound (length codes)) codes) → (s : Start) → So (startKept (length codes) s) → (i : ℕ) → Stand i (fresh (s .behaviour) intZero)
   unfolding emptied fitsInt
-  started-stands sounds s h i = fresh-sound codes sounds i (record { 0 = s .behaviour }) intZero emptyMailbox (parts (isNumber (s .process)) _ h .1) refl
+  started-stands sounds s h i = fresh-sound codes sounds i (s .behaviour) intZero emptyMailbox (parts (isNumber (s .process .0)) _ h .1) refl
 
   starts-stand : So (allOf (codeSound (length codes)) codes) → (n : Node) (starts : List Start) → So (allOf (startKept (length codes)) starts) → Stands (n .processes) → Stands (withEach withStart n starts .processes)
   starts-stand sounds n [] h all = all
   starts-stand sounds n (s ∷ starts) h all =
       let w = parts (startKept (length codes) s) (allOf (startKept (length codes)) starts) h in
-      starts-stand sounds (withStart n s) starts (w .1) (one-more (n .processes) (s .process - 1) (fresh (record { 0 = s .behaviour }) intZero) all (started-stands sounds s (w .0)))
+      starts-stand sounds (withStart n s) starts (w .1) (one-more (n .processes) (s .process .0 - 1) (fresh (s .behaviour) intZero) all (started-stands sounds s (w .0)))
 
 -- ---- a node without mail and signals
 
@@ -159,8 +159,8 @@ start-sized : (n : Node) (s : Start) → Sized n → Sized (withStart n s)
 start-sized n s z = record {
   lens = z .lens;
   ops = z .ops;
-  processes = length-set (n .processes) (s .process - 1) _ ∙ z .processes;
-  links = set-all noProcess sixteenLinks (s .process - 1) (n .processes) _ refl (z .links);
+  processes = length-set (n .processes) (s .process .0 - 1) _ ∙ z .processes;
+  links = set-all noProcess sixteenLinks (s .process .0 - 1) (n .processes) _ refl (z .links);
   mail = z .mail;
   slots = z .slots;
   flight = z .flight;

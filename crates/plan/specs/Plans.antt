@@ -16,6 +16,7 @@ use lib.ListN.{length, set, replicate}
 use lib.Seq.{sets}
 use Rattle.node.specs.declared.Node.{Node}
 use Rattle.node.specs.declared.Op.{Op}
+use Rattle.node.specs.declared.ProcessNumber.{ProcessNumber}
 use Rattle.node.specs.Mailboxes.{emptyMailbox}
 use Rattle.node.specs.Nodes.{blankNode}
 use Rattle.node.specs.Ops.{stopOp}
@@ -40,7 +41,7 @@ illPlaced = 14
 -- ---- the lines of a plan
 
 -- the process of the last start, i where there is none
-abbrev pub lastFrom : ℕ → List Start → ℕ
+abbrev pub lastFrom : ProcessNumber → List Start → ProcessNumber
 lastFrom i [] = i
 lastFrom i (s ∷ ss) = lastFrom (s .process) ss
 
@@ -56,9 +57,13 @@ more f xs l = thenOn (f l) (λ x l. good (xs ++ (x ∷ [])) l)
 unfoldable pub codeLines : ℕ → Left → Read (List Op)
 codeLines c l = thenOn (onLine (countLine codeKey 1 32) l) (λ n l. times n (more (onLine (opLine c n))) [] l)
 
+-- a number below that of every process, for the first start to be above
+abbrev pub beforeFirst : ProcessNumber
+beforeFirst = record { 0 = 0 }
+
 -- "then `starts=` 1 to 16 and lines `start=process,behaviour`"
 abbrev pub startMore : ℕ → List Start → Left → Read (List Start)
-startMore c starts = more (onLine (startLine c (lastFrom 0 starts))) starts
+startMore c starts = more (onLine (startLine c (lastFrom beforeFirst starts))) starts
 
 unfoldable pub startLines : ℕ → Left → Read (List Start)
 startLines c l = thenOn (onLine (countLine startsKey 1 16) l) (λ n l. times n (startMore c) [] l)
@@ -114,7 +119,7 @@ withStart n s = record {
   count = n .count;
   lens = n .lens;
   ops = n .ops;
-  processes = set (n .processes) (s .process - 1) (fresh (record { 0 = s .behaviour }) intZero);
+  processes = set (n .processes) (s .process .0 - 1) (fresh (s .behaviour) intZero);
   mail = n .mail;
   flight = n .flight;
 }

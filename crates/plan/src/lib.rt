@@ -207,9 +207,9 @@ fn op_at(text: &[u8], m: Mark, count: u8, len: u8) -> OpAt
 }
 
 // The line at m, with a start behind a start of process `last`.
-fn start_at(text: &[u8], m: Mark, count: u8, last: u8) -> StartAt
+fn start_at(text: &[u8], m: Mark, count: u8, last: ProcessNumber) -> StartAt
     requires { ⌜ Within (now text) m ⌝ }
-    ensures { λ r. ⌜ (Reached (now (text .entry)) (r .mark) (r .start) (onLine (startLine count last) (leftAt (now (text .entry)) m))) × (r .start .process ≤ 16) ⌝ }
+    ensures { λ r. ⌜ (Reached (now (text .entry)) (r .mark) (r .start) (onLine (startLine count last) (leftAt (now (text .entry)) m))) × (r .start .process .0 ≤ 16) ⌝ }
 {
     let at = m.at;
     let e = text::find(text, at, b'\n');
@@ -218,8 +218,8 @@ fn start_at(text: &[u8], m: Mark, count: u8, last: u8) -> StartAt
             mark: stopped_at(m, MALFORMED),
             start: Start {
                 refusal: MALFORMED,
-                process: 0,
-                behaviour: 0,
+                process: ProcessNumber(0),
+                behaviour: BehaviourNumber(0),
             },
         };
     }
@@ -340,7 +340,7 @@ fn start_each(text: &[u8], m: Mark, node: Node, count: u8, len: u8) -> Placed
 {
     let mut mark = m;
     let mut n = node;
-    let mut last: u8 = 0;
+    let mut last = ProcessNumber(0);
     let mut i: u8 = 0;
     while i < len {
         let x = start_at(text, mark, count, last);
@@ -350,8 +350,9 @@ fn start_each(text: &[u8], m: Mark, node: Node, count: u8, len: u8) -> Placed
         }
         let s = x.start;
         last = s.process;
-        let k = ProcessNumber(s.process).index();
-        let p = Process::fresh(BehaviourNumber(s.behaviour), Value::ZERO);
+        let b = s.behaviour;
+        let k = last.index();
+        let p = Process::fresh(b, Value::ZERO);
         n.processes[k] = p;
         i += 1;
     }

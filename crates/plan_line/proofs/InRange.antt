@@ -17,14 +17,13 @@ use Rattle.node.specs.declared.Value.the-variants.{Int, Atom}
 use Rattle.node.specs.Lists.{allOf, rising}
 use Rattle.node.specs.Ops.{operandCounts, kindsOf}
 use Rattle.node.specs.Values.{intZero, pid}
+use Rattle.rules.specs.Answers.{Answer, refused, done}
 use Rattle.rules.specs.Behaviours as rules
 use Rattle.rules.specs.Behaviours.{operand, operandInRange}
 use Rattle.rules.specs.Values.{fitsInt, isNumber, valueSound}
 use Rattle.rules.proofs.All.{both, parts, allOf-at, rising-at}
-use Rattle.text.specs.declared.Number.{Number}
-use Rattle.text.specs.declared.Number.the-variants as number
 use Rattle.text.specs.declared.Parsed.{Parsed}
-use Rattle.text.specs.Numbers.{malformed, outOfRange, numberOf, rangedOf}
+use Rattle.text.specs.Numbers.{malformed, outOfRange, Signed, numberOf, rangedOf}
 use Rattle.text.specs.Parts.{fieldsOf, indexOf, startsWith}
 use Rattle.text.specs.Values.{accepted, byLetter, intOf, minusOf, noValue, plusOf, rangedValue, valueOf}
 use Rattle.plan_line.specs.declared.Coded.{Coded}
@@ -60,17 +59,20 @@ minus-kept (suc m) = go (leb (suc m) 2147483648) refl
     go true e h = let l = leb-true (suc m) 2147483648 e in both (le-leb m 2147483647 (omega arith)) refl
     go false e h = refl
 
-int-kept : (n : Number) → ValueKept (intOf n)
+int-kept : (x : Answer Signed) → ValueKept (intOf x)
 unfolding intOf
-int-kept number.Malformed = no-value-kept malformed
-int-kept (number.Plus n) = plus-kept n
-int-kept (number.Minus n) = minus-kept n
+int-kept (refused k) = no-value-kept k
+int-kept (done n) = go (n .minus)
+  where
+    go : (m : Bool) → ValueKept (cond m (minusOf (n .value)) (plusOf (n .value)))
+    go true = minus-kept (n .value)
+    go false = plus-kept (n .value)
 
 letter-by : (l : List ℕ) (a b c : Bool) → ValueKept (cond a (intOf (numberOf l)) (cond b (rangedValue Atom (rangedOf (numberOf l) 0 255)) (cond c (rangedValue pid (rangedOf (numberOf l) 1 16)) (noValue malformed))))
 unfolding isNumber
 letter-by l true b c = int-kept (numberOf l)
-letter-by l false true c = λ e. le-leb _ 255 (ranged-kept (numberOf l) 0 255 .most)
-letter-by l false false true = λ e. let k = ranged-kept (numberOf l) 1 16 in both (le-leb 1 _ (k .least e)) (le-leb _ 16 (k .most))
+letter-by l false true c = λ e. le-leb _ 255 (ranged-kept l 0 255 .most)
+letter-by l false false true = λ e. let k = ranged-kept l 1 16 in both (le-leb 1 _ (k .least e)) (le-leb _ 16 (k .most))
 letter-by l false false false = no-value-kept malformed
 
 value-kept : (l : List ℕ) → ValueKept (valueOf l)
@@ -98,14 +100,14 @@ module _ (c n : ℕ) where
   operand-kept : (o : Op) (kind : ℕ) (l : List ℕ) → operandOf c n kind l .refusal ≡ 0 → So (operandInRange c n kind (operand (withOperand o kind (operandOf c n kind l)) kind))
   unfolding operandInRange operand withOperand operandOf isNumber
   operand-kept o zero l h = refl
-  operand-kept o (suc zero) l h = le-leb _ 3 (ranged-kept (numberOf l) 0 3 .most)
-  operand-kept o (suc (suc zero)) l h = le-leb _ 3 (ranged-kept (numberOf l) 0 3 .most)
+  operand-kept o (suc zero) l h = le-leb _ 3 (ranged-kept l 0 3 .most)
+  operand-kept o (suc (suc zero)) l h = le-leb _ 3 (ranged-kept l 0 3 .most)
   operand-kept o (suc (suc (suc zero))) l h = value-kept l h
-  operand-kept o (suc (suc (suc (suc zero)))) l h = le-leb _ n (ranged-kept (numberOf l) 0 n .most)
-  operand-kept o (suc (suc (suc (suc (suc zero))))) l h = let k = ranged-kept (numberOf l) 1 c in both (le-leb 1 _ (k .least h)) (le-leb _ c (k .most))
-  operand-kept o (suc (suc (suc (suc (suc (suc zero)))))) l h = let k = ranged-kept (numberOf l) 1 16 in both (le-leb 1 _ (k .least h)) (le-leb _ 16 (k .most))
-  operand-kept o (suc (suc (suc (suc (suc (suc (suc zero))))))) l h = le-leb _ 1 (ranged-kept (numberOf l) 0 1 .most)
-  operand-kept o (suc (suc (suc (suc (suc (suc (suc (suc zero)))))))) l h = let k = ranged-kept (numberOf l) 1 8 in both (le-leb 1 _ (k .least h)) (le-leb _ 8 (k .most))
+  operand-kept o (suc (suc (suc (suc zero)))) l h = le-leb _ n (ranged-kept l 0 n .most)
+  operand-kept o (suc (suc (suc (suc (suc zero))))) l h = let k = ranged-kept l 1 c in both (le-leb 1 _ (k .least h)) (le-leb _ c (k .most))
+  operand-kept o (suc (suc (suc (suc (suc (suc zero)))))) l h = let k = ranged-kept l 1 16 in both (le-leb 1 _ (k .least h)) (le-leb _ 16 (k .most))
+  operand-kept o (suc (suc (suc (suc (suc (suc (suc zero))))))) l h = le-leb _ 1 (ranged-kept l 0 1 .most)
+  operand-kept o (suc (suc (suc (suc (suc (suc (suc (suc zero)))))))) l h = let k = ranged-kept l 1 8 in both (le-leb 1 _ (k .least h)) (le-leb _ 8 (k .most))
   operand-kept o (suc (suc (suc (suc (suc (suc (suc (suc (suc zero))))))))) l h = clause-kept l h
   operand-kept o (suc (suc (suc (suc (suc (suc (suc (suc (suc (suc kind)))))))))) l h = refl
 

@@ -2,3 +2,4 @@ pub mod Keys
 pub mod Ops
 pub mod Ranges
 pub mod InRange
+pub mod Refusals

@@ -14,6 +14,7 @@ use Prim.Native.Nat.{ℕ}
 use lib.Dec.{eqb, ltb}
 use lib.ListN.{length, getD, drop}
 use Rattle.node.specs.declared.Op.{Op}
+use Rattle.node.specs.declared.ProcessNumber.{ProcessNumber}
 use Rattle.rules.specs.Answers.{Answer, done, need}
 use Rattle.text.specs.declared.Ranged.{Ranged}
 use Rattle.text.specs.Numbers.{malformed, numberOf, noNumber, rangedOf}
@@ -61,10 +62,10 @@ unfoldable pub opTold : ℕ → ℕ → List ℕ → Coded
 opTold c n = behindKey opKey noCode (λ l. codedOf c n (fieldsOf l))
 
 abbrev pub pairOf : Ranged → Ranged → Start
-pairOf i b = record { refusal = worse (i .refusal) (b .refusal); process = i .number; behaviour = b .number }
+pairOf i b = record { refusal = worse (i .refusal) (b .refusal); process = record { 0 = i .number }; behaviour = record { 0 = b .number } }
 
 abbrev pub noStart : ℕ → Start
-noStart k = record { refusal = k; process = 0; behaviour = 0 }
+noStart k = record { refusal = k; process = record { 0 = 0 }; behaviour = record { 0 = 0 } }
 
 -- "`start=process,behaviour`, the behaviour up to the plan's count"
 unfoldable pub startOf : ℕ → List (List ℕ) → Start
@@ -74,10 +75,10 @@ startOf c fields =
     (noStart malformed)
 
 -- "on a line 11, 12, 13 in that order"
-unfoldable pub risen : ℕ → Start → Start
-risen last s = cond (eqb (s .refusal) 0) (cond (ltb last (s .process)) s (noStart notRising)) s
+unfoldable pub risen : ProcessNumber → Start → Start
+risen last s = cond (eqb (s .refusal) 0) (cond (ltb (last .0) (s .process .0)) s (noStart notRising)) s
 
-unfoldable pub startTold : ℕ → ℕ → List ℕ → Start
+unfoldable pub startTold : ℕ → ProcessNumber → List ℕ → Start
 startTold c last = behindKey startKey (noStart malformed) (λ l. risen last (startOf c (fieldsOf l)))
 
 -- ---- the refusal of a line, or its result
@@ -103,5 +104,5 @@ opLine c n line = op (opTold c n line)
 abbrev pub start : Start → Answer Start
 start s = answered (s .refusal) s
 
-unfoldable pub startLine : ℕ → ℕ → List ℕ → Answer Start
+unfoldable pub startLine : ℕ → ProcessNumber → List ℕ → Answer Start
 startLine c last line = start (startTold c last line)

@@ -33,8 +33,8 @@ pub struct Coded {
 // A start as it is read: the refusal, 11 or 12, or 0, and its numbers.
 pub struct Start {
     pub refusal: u8,
-    pub process: u8,
-    pub behaviour: u8,
+    pub process: ProcessNumber,
+    pub behaviour: BehaviourNumber,
 }
 
 // The line `plan=1`: 11 or 0.
@@ -72,7 +72,7 @@ pub fn op_line(line: &[u8], count: u8, len: u8) -> Coded
 }
 
 // A line `start=` behind a start of process `last`.
-pub fn start_line(line: &[u8], count: u8, last: u8) -> Start
+pub fn start_line(line: &[u8], count: u8, last: ProcessNumber) -> Start
     ensures { λ r. ⌜ r ≡ startTold count last (now (line .entry)) ⌝ }
 {
     if text::starts(line, b"start=") {
@@ -296,8 +296,8 @@ fn read_start(rest: &[u8], count: u8) -> Start
         let b = text::read_ranged(text::field(rest, 1), 1, count);
         return Start {
             refusal: worse(i.refusal, b.refusal),
-            process: i.number,
-            behaviour: b.number,
+            process: ProcessNumber(i.number),
+            behaviour: BehaviourNumber(b.number),
         };
     }
     no_start(MALFORMED)
@@ -308,19 +308,19 @@ fn no_start(refusal: u8) -> Start
 {
     Start {
         refusal,
-        process: 0,
-        behaviour: 0,
+        process: ProcessNumber(0),
+        behaviour: BehaviourNumber(0),
     }
 }
 
 // 13, where its process is not above the last.
-fn rising(s: Start, last: u8) -> Start
+fn rising(s: Start, last: ProcessNumber) -> Start
     ensures { λ r. ⌜ r ≡ risen last s ⌝ }
 {
     if s.refusal != 0 {
         return s;
     }
-    if last < s.process {
+    if last.0 < s.process.0 {
         return s;
     }
     no_start(NOT_RISING)

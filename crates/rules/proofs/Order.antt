@@ -140,7 +140,7 @@ played-stops n (a ∷ l) = go (step n a) refl (λ m. played-stops m l)
     go (done m) e f = rw add-one (f m)
 
 -- and accepts no more steps than there are
-played-count : (n : Node) (l : List Action) → played n l .accepted ≤ length l
+pub played-count : (n : Node) (l : List Action) → played n l .accepted ≤ length l
 unfolding played
 played-count n [] = omega arith
 played-count n (a ∷ l) = go (step n a) (λ m. played-count m l)

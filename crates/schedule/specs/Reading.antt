@@ -3,7 +3,8 @@
 --   byteOf l             l read as a number of 0 to 255
 --   packedOf kind i j    the step of a kind, 0 run or 1 arrive, as one number, where both numbers were read
 --   arrivalOf fields     what follows `arrive=`: two fields
---   stepOf line          what a line is, without its byte 10: a step or malformed
+--   stepOf line          what a line is, without its byte 10: a step, or refused as malformed
+--   lineOf x             the answer that the code's `Line` stands for: 15, or the step
 --   unended rest         what a last line without byte 10 is, whatever it holds
 --   readLines ls         what each line of a text is
 --   firstMalformed n ls  the number of the first malformed line, where the first line has number n; 0 where none is
@@ -18,7 +19,7 @@ use Prim.Native.Nat.{ℕ, _+_, _*_}
 use lib.Dec.{eqb, ltb}
 use lib.ListN.{length, getD, drop, replicate}
 use Rattle.node.specs.Lists.{firsts}
-use Rattle.rules.specs.Answers.{tooLong}
+use Rattle.rules.specs.Answers.{Answer, refused, done, need, tooLong}
 use Rattle.text.specs.declared.Ranged.{Ranged}
 use Rattle.text.specs.Numbers.{numberOf, rangedOf}
 use Rattle.text.specs.Parts.{Lines, linesOf, fieldsOf, startsWith}
@@ -35,11 +36,11 @@ abbrev pub byteOf : List ℕ → Ranged
 byteOf l = rangedOf (numberOf l) 0 255
 
 -- a step as one number has its kind above its owner above its from
-unfoldable pub packedOf : ℕ → Ranged → Ranged → Line
-packedOf kind i j = cond (eqb (i .refusal) 0 && eqb (j .refusal) 0) (Step (kind * 65536 + i .number * 256 + j .number)) Malformed
+unfoldable pub packedOf : ℕ → Ranged → Ranged → Answer ℕ
+packedOf kind i j = need (eqb (i .refusal) 0 && eqb (j .refusal) 0) malformedLine (done (kind * 65536 + i .number * 256 + j .number))
 
-unfoldable pub arrivalOf : List (List ℕ) → Line
-arrivalOf fields = cond (eqb (length fields) 2) (packedOf 1 (byteOf (getD fields 0 [])) (byteOf (getD fields 1 []))) Malformed
+unfoldable pub arrivalOf : List (List ℕ) → Answer ℕ
+arrivalOf fields = need (eqb (length fields) 2) malformedLine (packedOf 1 (byteOf (getD fields 0 [])) (byteOf (getD fields 1 [])))
 
 abbrev pub runKey : List ℕ
 runKey = 114 ∷ 117 ∷ 110 ∷ 61 ∷ []  -- run=
@@ -48,31 +49,35 @@ abbrev pub arriveKey : List ℕ
 arriveKey = 97 ∷ 114 ∷ 114 ∷ 105 ∷ 118 ∷ 101 ∷ 61 ∷ []  -- arrive=
 
 -- the from of a run is 0
-unfoldable pub stepOf : List ℕ → Line
+unfoldable pub stepOf : List ℕ → Answer ℕ
 stepOf line =
     cond (startsWith runKey line) (packedOf 0 (byteOf (drop 4 line)) (record { refusal = 0; number = 0 }))
     (cond (startsWith arriveKey line) (arrivalOf (fieldsOf (drop 7 line)))
-    Malformed)
+    (refused malformedLine))
+
+abbrev pub lineOf : Line → Answer ℕ
+lineOf Malformed = refused malformedLine
+lineOf (Step s) = done s
 
 -- ---- the lines of a text
 
 -- "each ended by byte 10; a last line without it is .. in steps 15"
-abbrev pub unended : List ℕ → List Line
+abbrev pub unended : List ℕ → List (Answer ℕ)
 unended [] = []
-unended (b ∷ l) = Malformed ∷ []
+unended (b ∷ l) = refused malformedLine ∷ []
 
-unfoldable pub readLines : Lines → List Line
+unfoldable pub readLines : Lines → List (Answer ℕ)
 readLines ls = map stepOf (ls .whole) ++ unended (ls .rest)
 
-unfoldable pub firstMalformed : ℕ → List Line → ℕ
+unfoldable pub firstMalformed : ℕ → List (Answer ℕ) → ℕ
 firstMalformed n [] = 0
-firstMalformed n (Malformed ∷ ls) = n
-firstMalformed n (Step s ∷ ls) = firstMalformed (n + 1) ls
+firstMalformed n (refused k ∷ ls) = n
+firstMalformed n (done s ∷ ls) = firstMalformed (n + 1) ls
 
-unfoldable pub stepsOf : List Line → List ℕ
+unfoldable pub stepsOf : List (Answer ℕ) → List ℕ
 stepsOf [] = []
-stepsOf (Malformed ∷ ls) = stepsOf ls
-stepsOf (Step s ∷ ls) = s ∷ stepsOf ls
+stepsOf (refused k ∷ ls) = stepsOf ls
+stepsOf (done s ∷ ls) = s ∷ stepsOf ls
 
 -- ---- the answer
 
@@ -83,7 +88,7 @@ unfoldable pub acceptedSteps : List ℕ → Schedule
 acceptedSteps steps = record { number = 0; line = 0; count = length steps; steps = firsts 0 4096 steps }
 
 -- "else 15 malformed line, the first told; if none, 32 with line 0 for over 4,096 lines; each gives no steps"
-unfoldable pub ofLines : List Line → Schedule
+unfoldable pub ofLines : List (Answer ℕ) → Schedule
 ofLines ls =
     cond (ltb 0 (firstMalformed 1 ls)) (refusedText malformedLine (firstMalformed 1 ls))
     (cond (ltb 4096 (length ls)) (refusedText tooLong 0)

@@ -2,7 +2,7 @@
 ghost use mathlib.Core.Path.{_≡_};
 ghost use lib.ListN.{set};
 ghost use Rattle.text.specs.Parts.{fieldsOf};
-ghost use Rattle.schedule.specs.Reading.{packedOf, arrivalOf, stepOf, refusedText, scheduleOf};
+ghost use Rattle.schedule.specs.Reading.{packedOf, arrivalOf, stepOf, lineOf, refusedText, scheduleOf};
 use text::Ranged;
 
 // Text above this many bytes is refused.
@@ -25,8 +25,8 @@ pub struct Schedule {
     pub steps: [u32; 4096],
 }
 
-// What one line is.
-pub enum Line {
+// What one line is: 15, or a step (`lineOf`).
+enum Line {
     Malformed,
     Step(u32),
 }
@@ -88,7 +88,7 @@ fn store(steps: &mut [u32], count: usize, step: u32)
 
 // A line without its byte 10.
 fn read_line(line: &[u8]) -> Line
-    ensures { λ r. ⌜ r ≡ stepOf (now (line .entry)) ⌝ }
+    ensures { λ r. ⌜ lineOf r ≡ stepOf (now (line .entry)) ⌝ }
 {
     if text::starts(line, b"run=") {
         return packed(
@@ -108,7 +108,7 @@ fn read_line(line: &[u8]) -> Line
 
 // What follows `arrive=`.
 fn arrival(rest: &[u8]) -> Line
-    ensures { λ r. ⌜ r ≡ arrivalOf (fieldsOf (now (rest .entry))) ⌝ }
+    ensures { λ r. ⌜ lineOf r ≡ arrivalOf (fieldsOf (now (rest .entry))) ⌝ }
 {
     if text::count_fields(rest) == 2 {
         let owner = text::read_ranged(text::field(rest, 0), 0, 255);
@@ -120,7 +120,7 @@ fn arrival(rest: &[u8]) -> Line
 
 // The step of a kind with two numbers that were read.
 fn packed(kind: u8, owner: Ranged, from: Ranged) -> Line
-    ensures { λ r. ⌜ r ≡ packedOf kind owner from ⌝ }
+    ensures { λ r. ⌜ lineOf r ≡ packedOf kind owner from ⌝ }
 {
     if owner.refusal != 0 {
         return Line::Malformed;

@@ -2,24 +2,25 @@
 ghost use mathlib.Core.Path.{_≡_};
 ghost use Rattle.node.specs.Rows.{signals};
 ghost use Rattle.rules.specs.Nodes.{rowSound, signalSound};
+use node::ProcessNumber;
 use node::Row;
 use node::Signal;
 
 // A signal from process j to process i.
-pub fn signal_sound(j: u8, i: u8, x: Signal) -> bool
-    ensures { λ r. ⌜ r ≡ signalSound j i x ⌝ }
+pub fn signal_sound(j: ProcessNumber, i: ProcessNumber, x: Signal) -> bool
+    ensures { λ r. ⌜ r ≡ signalSound (j .0) (i .0) x ⌝ }
 {
     match x {
         Signal::Msg(v) => behaviours::value_sound(v),
         Signal::Exit(v, _) => behaviours::value_sound(v),
-        Signal::Link => j != i,
-        Signal::Unlink => j != i,
+        Signal::Link => j.0 != i.0,
+        Signal::Unlink => j.0 != i.0,
     }
 }
 
 // The signals from process j to process i.
-pub fn row_sound(j: u8, i: u8, row: Row) -> bool
-    ensures { λ r. ⌜ r ≡ rowSound j i (signals row) ⌝ }
+pub fn row_sound(j: ProcessNumber, i: ProcessNumber, row: Row) -> bool
+    ensures { λ r. ⌜ r ≡ rowSound (j .0) (i .0) (signals row) ⌝ }
 {
     let count = row.count;
     if 4 < count {

@@ -3,6 +3,7 @@
 ghost use mathlib.Core.Path.{_≡_};
 ghost use Rattle.rules.specs.Nodes.{sound};
 use node::Node;
+use node::ProcessNumber;
 
 mod flight;
 mod processes;
@@ -29,7 +30,7 @@ pub fn sound(n: Node) -> bool
             let row = n.flight[k];
             let from = (k / 16 + 1) as u8;
             let to = (k % 16 + 1) as u8;
-            if !flight::row_sound(from, to, row) {
+            if !flight::row_sound(ProcessNumber(from), ProcessNumber(to), row) {
                 return false;
             }
         }

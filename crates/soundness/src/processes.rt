@@ -31,7 +31,8 @@ pub fn processes_sound(
             let op = ops[at];
             there = op.number;
         }
-        if !process_sound((i + 1) as u8, p, m, count, lens, there) {
+        let number = (i + 1) as u8;
+        if !process_sound(ProcessNumber(number), p, m, count, lens, there) {
             return false;
         }
         i += 1;
@@ -68,8 +69,15 @@ pub fn place_index(count: u8, lens: [u8; 8], p: Process) -> usize
 }
 
 // Process i in its stage; `there` is the number of the op at its place.
-pub fn process_sound(i: u8, p: Process, m: Mailbox, count: u8, lens: [u8; 8], there: u8) -> bool
-    ensures { λ r. ⌜ r ≡ standingTold count (lengthIn count lens (p .behaviour .0)) (eqb there 11) i (standing p m) ⌝ }
+pub fn process_sound(
+    i: ProcessNumber,
+    p: Process,
+    m: Mailbox,
+    count: u8,
+    lens: [u8; 8],
+    there: u8,
+) -> bool
+    ensures { λ r. ⌜ r ≡ standingTold count (lengthIn count lens (p .behaviour .0)) (eqb there 11) (i .0) (standing p m) ⌝ }
 {
     let stage = p.stage;
     match stage {
@@ -111,11 +119,12 @@ pub fn running_sound(p: Process, m: Mailbox, count: u8, lens: [u8; 8], there: u8
     super::values::mailbox_sound(m)
 }
 
-pub fn in_links(p: Process, j: u8) -> bool
-    ensures { λ r. ⌜ r ≡ linkSet p j ⌝ }
+pub fn in_links(p: Process, j: ProcessNumber) -> bool
+    ensures { λ r. ⌜ r ≡ linkSet p (j .0) ⌝ }
 {
-    if !behaviours::is_number(j) {
+    let number = j.0;
+    if !behaviours::is_number(number) {
         return false;
     }
-    p.links_to(ProcessNumber(j))
+    p.links_to(j)
 }

@@ -5,7 +5,7 @@ use mathlib.Core.Path.{_≡_, refl}
 use Prim.Native.Nat.{ℕ}
 use lib.IntN.{negsuc}
 use Rattle.node.specs.declared.Value.the-variants.{Int, Atom}
-use Rattle.text.specs.declared.Number.the-variants as number
+use Rattle.rules.specs.Answers.{done}
 use Rattle.text.specs.Numbers.{malformed, outOfRange, isDigit, unsignedForm, negative, unsigned, numberForm, decimal, numberValue, ceiling, numberOf, rangedOf}
 use Rattle.text.specs.Parts.{split, inFront, lineThen, lastApart, linesOf, fieldsOf, equal, startsWith}
 use Rattle.text.specs.Values.{noValue, accepted, plusOf, minusOf, intOf, byLetter, valueOf, numberText, valueText}
@@ -27,7 +27,7 @@ unfolding numberForm unsignedForm unsigned negative isDigit equal startsWith
 forms = refl
 
 -- a number of any length is read, its value held
-long : numberOf (57 ∷ 57 ∷ 57 ∷ 57 ∷ 57 ∷ 57 ∷ 57 ∷ 57 ∷ 57 ∷ 57 ∷ 57 ∷ 57 ∷ 57 ∷ 57 ∷ 57 ∷ 57 ∷ 57 ∷ 57 ∷ 57 ∷ 57 ∷ []) ≡ number.Plus ceiling
+long : numberOf (57 ∷ 57 ∷ 57 ∷ 57 ∷ 57 ∷ 57 ∷ 57 ∷ 57 ∷ 57 ∷ 57 ∷ 57 ∷ 57 ∷ 57 ∷ 57 ∷ 57 ∷ 57 ∷ 57 ∷ 57 ∷ 57 ∷ 57 ∷ []) ≡ done (record { minus = false; value = ceiling })
 unfolding numberOf numberValue decimal numberForm unsignedForm unsigned negative isDigit equal startsWith
 long = refl
 

@@ -8,10 +8,11 @@ use borrow.Author.Tests.{eq-eqb, ne-eqb, le-leb, lt-leb}
 use lib.Dec.{eqb}
 use lib.ListN.{length, take, drop, getD, drop-of-length-le}
 use Rattle.node.specs.Lists.{allOf}
+use Rattle.rules.specs.Answers.{Answer, refused, done}
 use Rattle.text.specs.declared.Number.the-variants as number
 use Rattle.text.specs.declared.Number.{Number}
 use Rattle.text.specs.declared.Ranged.{Ranged}
-use Rattle.text.specs.Numbers.{isDigit, unsignedForm, negative, unsigned, numberForm, decimal, numberValue, ceiling, malformed, outOfRange, numberOf, noNumber, rangedOf}
+use Rattle.text.specs.Numbers.{isDigit, unsignedForm, negative, unsigned, numberForm, decimal, numberValue, ceiling, malformed, outOfRange, Signed, signedOf, numberOf, noNumber, rangedOf}
 use Rattle.text.specs.Parts.{equal, startsWith}
 use Rattle.text.proofs.Parts.{drop-at, tail-part}
 
@@ -70,36 +71,36 @@ unsigned-other (b ∷ l) h e d = rw (ne-eqb b 48 e) d
 
 -- ---- numbers
 module _ (s : List ℕ) {z : Bool} (hz : z ≡ equal s (45 ∷ 48 ∷ [])) where
-  pub number-zero : z ≡ true → number.Malformed ≡ numberOf s
+  pub number-zero : z ≡ true → signedOf number.Malformed ≡ numberOf s
   unfolding numberOf numberForm
   number-zero e = rw (← hz, e)
 
   module _ (ez : z ≡ false) {m u : Bool} (hm : m ≡ startsWith (45 ∷ []) s) where
     module _ (em : m ≡ true) (hu : u ≡ unsignedForm (take (length s - 1) (drop 1 s))) where
-      pub number-minus : {n : ℕ} → u ≡ true → n ≡ min (decimal 0 (take (length s - 1) (drop 1 s))) ceiling → number.Minus n ≡ numberOf s
+      pub number-minus : {n : ℕ} → u ≡ true → n ≡ min (decimal 0 (take (length s - 1) (drop 1 s))) ceiling → signedOf (number.Minus n) ≡ numberOf s
       unfolding numberOf numberForm numberValue unsigned negative
       number-minus eu e =
           let hv : u ≡ unsignedForm (drop 1 s) = rw (tail-part s 1) at hu in
           let f = rw (tail-part s 1) at e in
           simp (← hz, ez, ← hm, em, ← hv, eu, f)
 
-      pub number-minus-bad : u ≡ false → number.Malformed ≡ numberOf s
+      pub number-minus-bad : u ≡ false → signedOf number.Malformed ≡ numberOf s
       unfolding numberOf numberForm unsigned negative
       number-minus-bad eu =
           let hv : u ≡ unsignedForm (drop 1 s) = rw (tail-part s 1) at hu in
           simp (← hz, ez, ← hm, em, ← hv, eu)
 
     module _ (em : m ≡ false) (hu : u ≡ unsignedForm s) where
-      pub number-plus : {n : ℕ} → u ≡ true → n ≡ min (decimal 0 s) ceiling → number.Plus n ≡ numberOf s
+      pub number-plus : {n : ℕ} → u ≡ true → n ≡ min (decimal 0 s) ceiling → signedOf (number.Plus n) ≡ numberOf s
       unfolding numberOf numberForm numberValue unsigned negative
       number-plus eu e = simp (← hz, ez, ← hm, em, ← hu, eu, e)
 
-      pub number-plus-bad : u ≡ false → number.Malformed ≡ numberOf s
+      pub number-plus-bad : u ≡ false → signedOf number.Malformed ≡ numberOf s
       unfolding numberOf numberForm unsigned negative
       number-plus-bad eu = simp (← hz, ez, ← hm, em, ← hu, eu)
 
 -- ---- ranges: n is the number that was read
-module _ {n q : Number} (low high : ℕ) (is : n ≡ q) {r : Ranged} where
+module _ {n : Number} {q : Answer Signed} (low high : ℕ) (is : signedOf n ≡ q) {r : Ranged} where
   pub ranged-malformed : n ≡ number.Malformed → r ≡ noNumber malformed → r ≡ rangedOf q low high
   unfolding rangedOf
   ranged-malformed e f = rw (← is, e) f

@@ -4,6 +4,7 @@
 --   place-hit place-miss place-none   the turns of `find`
 --   split-at split-end split-first    the parts from a place on, up to the next byte c and behind it
 --   lines-at lines-rest lines-none    the lines from a place on: a line and those behind it, a line without byte 10, nothing
+--   lines-few                   a text has no more whole lines than bytes
 --   equal-true equal-self       `equal` is equality
 --   starts-front starts-long    what `startsWith` says of a text
 use mathlib.Core.Bool.{Bool, true, false, _&&_, cond}
@@ -138,6 +139,28 @@ module _ (s : List ℕ) {at e : ℕ} (w : at ≤ length s) (h : e ≡ placeFrom 
 pub lines-none : {at : ℕ} (s : List ℕ) → length s ≤ at → linesOf (drop at s) ≡ record { whole = []; rest = [] }
 unfolding linesOf split lastApart
 lines-none s h = rw (drop-of-length-le s h)
+
+split-few : (c : ℕ) (l : List ℕ) → length (split c l) ≤ length l + 1
+unfolding split inFront
+split-few c [] = omega arith
+split-few c (b ∷ l) = one-more (eqb b c) (split c l) (split-few c l)
+  where
+    one-more : (t : Bool) (qs : List (List ℕ)) → length qs ≤ length l + 1 → length (inFront t b qs) ≤ length (b ∷ l) + 1
+    one-more true qs h = omega arith
+    one-more false [] h = omega arith
+    one-more false (q ∷ qs) h = omega arith
+
+apart-few : (p : List ℕ) (ps : List (List ℕ)) → length (lastApart (p ∷ ps) .whole) ≡ length ps
+unfolding lastApart lineThen
+apart-few p [] = refl
+apart-few p (q ∷ ps) = ap suc (apart-few q ps)
+
+pub lines-few : (s : List ℕ) → length (linesOf s .whole) ≤ length s
+unfolding linesOf
+lines-few s =
+    let q = split-some 10 s in
+    let parts : length (split 10 s) ≡ suc (length (q .1)) = ap length (q .2) in
+    rw (q .2) (omega (arith, apart-few (q .0) (q .1), split-few 10 s))
 
 -- ---- words
 pub equal-lengths : (k l : List ℕ) → (length k ≡ length l → ⊥) → equal k l ≡ false

@@ -8,15 +8,18 @@
 --   decimal n l            the value of the digits of n and then those of l
 --   numberValue l          the value of l without its sign, at any length
 --   ceiling                past every range; a value that is read is held here
---   numberOf l             what is read: malformed, or the sign and the value
+--   Signed                 a number as it is read: whether it has a minus, and its value
+--   numberOf l             what is read: refused as malformed, or the number with its value held
+--   signedOf n             the answer that the code's `Number` stands for: 11, or the sign and the value
 --   noNumber refusal       what is read with a range where it is refused
 --   rangedOf n low high    what is read with a range: n, which can't be negative, has to be within low to high
-use mathlib.Core.Bool.{Bool, false, _&&_, not, cond}
+use mathlib.Core.Bool.{Bool, true, false, _&&_, not, cond}
 use mathlib.Core.List.{List, [], _∷_}
 use Prim.Native.Nat.{ℕ, _+_, _*_, _-_, min}
 use lib.Dec.{eqb, leb}
 use lib.ListN.{drop}
 use Rattle.node.specs.Lists.{allOf}
+use Rattle.rules.specs.Answers.{Answer, refused, done, need}
 use Rattle.text.specs.declared.Number.the-variants as number
 use Rattle.text.specs.declared.Number.{Number}
 use Rattle.text.specs.declared.Ranged.{Ranged}
@@ -55,17 +58,23 @@ numberValue l = decimal 0 (unsigned l)
 abbrev pub ceiling : ℕ
 ceiling = 4294967296
 
-unfoldable pub numberOf : List ℕ → Number
-numberOf l =
-    cond (numberForm l)
-    (cond (negative l) (number.Minus (min (numberValue l) ceiling)) (number.Plus (min (numberValue l) ceiling)))
-    number.Malformed
+pub record Signed : Type 0 where
+  pub minus : Bool
+  pub value : ℕ
+
+unfoldable pub numberOf : List ℕ → Answer Signed
+numberOf l = need (numberForm l) malformed (done (record { minus = negative l; value = min (numberValue l) ceiling }))
+
+abbrev pub signedOf : Number → Answer Signed
+signedOf number.Malformed = refused malformed
+signedOf (number.Plus n) = done (record { minus = false; value = n })
+signedOf (number.Minus n) = done (record { minus = true; value = n })
 
 abbrev pub noNumber : ℕ → Ranged
 noNumber refusal = record { refusal = refusal; number = 0 }
 
 -- "a minus on a number that can't be negative is 12"
-unfoldable pub rangedOf : Number → ℕ → ℕ → Ranged
-rangedOf number.Malformed low high = noNumber malformed
-rangedOf (number.Minus n) low high = noNumber outOfRange
-rangedOf (number.Plus n) low high = cond (leb low n && leb n high) (record { refusal = 0; number = n }) (noNumber outOfRange)
+unfoldable pub rangedOf : Answer Signed → ℕ → ℕ → Ranged
+rangedOf (refused k) low high = noNumber k
+rangedOf (done n) low high =
+    cond (not (n .minus) && (leb low (n .value) && leb (n .value) high)) (record { refusal = 0; number = n .value }) (noNumber outOfRange)

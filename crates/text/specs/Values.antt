@@ -17,11 +17,10 @@ use lib.IntN.{pos, negℤ}
 use Rattle.node.specs.Values.{intZero, pid}
 use Rattle.node.specs.declared.Value.the-variants.{Int, Atom, Pid}
 use Rattle.node.specs.declared.Value.{Value}
-use Rattle.text.specs.declared.Number.the-variants as number
-use Rattle.text.specs.declared.Number.{Number}
+use Rattle.rules.specs.Answers.{Answer, refused, done}
 use Rattle.text.specs.declared.Parsed.{Parsed}
 use Rattle.text.specs.declared.Ranged.{Ranged}
-use Rattle.text.specs.Numbers.{malformed, outOfRange, numberOf, rangedOf}
+use Rattle.text.specs.Numbers.{malformed, outOfRange, Signed, numberOf, rangedOf}
 use Rattle.text.specs.Writing.{digits, intText}
 
 abbrev pub noValue : ℕ → Parsed
@@ -36,10 +35,9 @@ plusOf n = cond (leb n 2147483647) (accepted (Int (pos n))) (noValue outOfRange)
 unfoldable pub minusOf : ℕ → Parsed
 minusOf n = cond (leb n 2147483648) (accepted (Int (negℤ (pos n)))) (noValue outOfRange)
 
-unfoldable pub intOf : Number → Parsed
-intOf number.Malformed = noValue malformed
-intOf (number.Plus n) = plusOf n
-intOf (number.Minus n) = minusOf n
+unfoldable pub intOf : Answer Signed → Parsed
+intOf (refused k) = noValue k
+intOf (done n) = cond (n .minus) (minusOf (n .value)) (plusOf (n .value))
 
 abbrev pub rangedValue : (ℕ → Value) → Ranged → Parsed
 rangedValue make n = record { refusal = n .refusal; value = make (n .number) }

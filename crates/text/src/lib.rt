@@ -9,7 +9,7 @@ ghost use lib.IntN.{natAbs};
 ghost use lib.ListN.{length, getD};
 ghost use Rattle.node.specs.Lists.{allOf};
 ghost use Rattle.text.specs.Parts.{placeFrom, fieldsOf, indexOf, equal, startsWith};
-ghost use Rattle.text.specs.Numbers.{isDigit, unsignedForm, decimal, ceiling, numberOf, noNumber, rangedOf};
+ghost use Rattle.text.specs.Numbers.{isDigit, unsignedForm, decimal, ceiling, signedOf, numberOf, noNumber, rangedOf};
 ghost use Rattle.text.specs.Values.{noValue, plusOf, minusOf, intOf, valueOf, letterOf, valueText};
 ghost use Rattle.text.specs.Writing.{Wrote, digits, intText};
 
@@ -25,7 +25,7 @@ const CEILING: u64 = 4294967296;
 // The largest place: places are counted up to here and stay here.
 const TOP: usize = 18446744073709551615;
 
-// A number as it is read: 11, or its sign and its value, held at the ceiling.
+// A number as it is read: 11, or its sign and its value, held at the ceiling (`signedOf`).
 pub enum Number {
     Malformed,
     Plus(u64),
@@ -140,7 +140,7 @@ pub fn word_index(table: &[u8], word: &[u8]) -> usize
 
 // A number of any length, with or without a minus.
 pub fn read_number(s: &[u8]) -> Number
-    ensures { λ r. ⌜ r ≡ numberOf (now (s .entry)) ⌝ }
+    ensures { λ r. ⌜ signedOf r ≡ numberOf (now (s .entry)) ⌝ }
 {
     if same(s, b"-0") {
         return Number::Malformed;
@@ -351,7 +351,7 @@ fn no_value(refusal: u8) -> Parsed
 
 // The value `i` of a number that was read.
 fn int_value(n: Number) -> Parsed
-    ensures { λ r. ⌜ r ≡ intOf n ⌝ }
+    ensures { λ r. ⌜ r ≡ intOf (signedOf n) ⌝ }
 {
     match n {
         Number::Malformed => no_value(MALFORMED),

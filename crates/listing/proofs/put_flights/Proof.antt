@@ -19,11 +19,17 @@ abbrev μ-loop : tie.MeasureT-loop
 loop-holds : tie.Need-loop-holds Inv-loop μ-loop
 loop-holds c = left-all _ _ _ (omega arith) (omega arith)
 
-add-put-pair : tie.Need-add-put-pair Inv-loop μ-loop
-add-put-pair c = search needs
+add-t11 : tie.Need-add-t11 Inv-loop μ-loop
+add-t11 c = search needs
 
-add-put-pair-2 : tie.Need-add-put-pair-2 Inv-loop μ-loop
-add-put-pair-2 c = search needs
+cast-t12 : tie.Need-cast-t12 Inv-loop μ-loop
+cast-t12 c = search needs
+
+add-t15 : tie.Need-add-t15 Inv-loop μ-loop
+add-t15 c = search needs
+
+cast-t16 : tie.Need-cast-t16 Inv-loop μ-loop
+cast-t16 c = search needs
 
 mul-put-pair : tie.Need-mul-put-pair Inv-loop μ-loop
 mul-put-pair c = search needs
@@ -61,8 +67,10 @@ put-flights-spec =
     Inv-loop
     μ-loop
     loop-holds
-    add-put-pair
-    add-put-pair-2
+    add-t11
+    cast-t12
+    add-t15
+    cast-t16
     mul-put-pair
     element-copy-out-put-pair
     put-pair-requires

@@ -19,8 +19,11 @@ abbrev μ-loop : tie.MeasureT-loop
 loop-holds : tie.Need-loop-holds Inv-loop μ-loop
 loop-holds c = left-all _ _ _ (omega arith) (omega arith)
 
-add-put-process : tie.Need-add-put-process Inv-loop μ-loop
-add-put-process c = search needs
+cast-t10 : tie.Need-cast-t10 Inv-loop μ-loop
+cast-t10 c = search needs
+
+add-t11 : tie.Need-add-t11 Inv-loop μ-loop
+add-t11 c = search needs
 
 mul-put-process : tie.Need-mul-put-process Inv-loop μ-loop
 mul-put-process c = search needs
@@ -63,7 +66,8 @@ put-processes-spec =
     Inv-loop
     μ-loop
     loop-holds
-    add-put-process
+    cast-t10
+    add-t11
     mul-put-process
     element-copy-out-put-process
     mul-put-process-2

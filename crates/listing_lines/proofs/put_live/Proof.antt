@@ -11,6 +11,9 @@ use Rattle.listing_lines.proofs.put_live.Tie as tie
 slice-aggregate-put-number-line : tie.Need-slice-aggregate-put-number-line
 slice-aggregate-put-number-line c = search needs
 
+cast-put-number-line : tie.Need-cast-put-number-line
+cast-put-number-line c = search needs
+
 put-number-line-requires : tie.Need-put-number-line-requires
 put-number-line-requires c κs = search needs
 
@@ -23,8 +26,8 @@ put-bytes-requires c κs = search needs
 slice-aggregate-put-number-line-2 : tie.Need-slice-aggregate-put-number-line-2
 slice-aggregate-put-number-line-2 c = search needs
 
-cast-put-number-line : tie.Need-cast-put-number-line
-cast-put-number-line c = search needs
+cast-put-number-line-2 : tie.Need-cast-put-number-line-2
+cast-put-number-line-2 c = search needs
 
 put-number-line-requires-2 : tie.Need-put-number-line-requires-2
 put-number-line-requires-2 c κs = search needs
@@ -32,8 +35,8 @@ put-number-line-requires-2 c κs = search needs
 slice-aggregate-put-number-line-3 : tie.Need-slice-aggregate-put-number-line-3
 slice-aggregate-put-number-line-3 c = search needs
 
-cast-put-number-line-2 : tie.Need-cast-put-number-line-2
-cast-put-number-line-2 c = search needs
+cast-put-number-line-3 : tie.Need-cast-put-number-line-3
+cast-put-number-line-3 c = search needs
 
 put-number-line-requires-3 : tie.Need-put-number-line-requires-3
 put-number-line-requires-3 c κs = search needs
@@ -79,14 +82,15 @@ put-live-spec =
     tie.close
     (tie.spec
     slice-aggregate-put-number-line
+    cast-put-number-line
     put-number-line-requires
     slice-aggregate-put-bytes
     put-bytes-requires
     slice-aggregate-put-number-line-2
-    cast-put-number-line
+    cast-put-number-line-2
     put-number-line-requires-2
     slice-aggregate-put-number-line-3
-    cast-put-number-line-2
+    cast-put-number-line-3
     put-number-line-requires-3
     put-registers-requires
     slice-aggregate-put-number-line-4

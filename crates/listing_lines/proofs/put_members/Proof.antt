@@ -25,8 +25,11 @@ loop-holds c = left-all _ _ _ (omega arith) (omega arith)
 element-copy-out-linked : tie.Need-element-copy-out-linked Inv-loop μ-loop
 element-copy-out-linked c = search needs
 
-add-put-member : tie.Need-add-put-member Inv-loop μ-loop
-add-put-member c = search needs
+cast-t14 : tie.Need-cast-t14 Inv-loop μ-loop
+cast-t14 c = search needs
+
+add-t15 : tie.Need-add-t15 Inv-loop μ-loop
+add-t15 c = search needs
 
 put-member-requires : tie.Need-put-member-requires Inv-loop μ-loop
 put-member-requires c κs = search needs
@@ -58,7 +61,8 @@ put-members-spec =
     μ-loop
     loop-holds
     element-copy-out-linked
-    add-put-member
+    cast-t14
+    add-t15
     put-member-requires
     add-k
     loop-less

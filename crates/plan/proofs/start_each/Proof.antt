@@ -5,9 +5,10 @@ use Prim.Native.Nat.{ℕ, _≤_, _-_}
 use native.Mathlib.Omega.{arith}
 use borrow.Author.Needs.{needs}
 use Rattle.node.specs.declared.Node.{Node}
+use Rattle.node.specs.declared.ProcessNumber.{ProcessNumber}
 use Rattle.plan.specs.Marks.{leftAt}
 use Rattle.plan_line.specs.Lines.{startLine}
-use Rattle.plan.specs.Plans.{lastFrom, withStart, withEach}
+use Rattle.plan.specs.Plans.{beforeFirst, lastFrom, withStart, withEach}
 use Rattle.plan.specs.Reading.{onLine}
 use Rattle.plan_line.specs.declared.Start.{Start}
 use Rattle.plan.proofs.Loops.{mapped-on, left-one, remains, Turn, turn-begin, turn-more, turn-stop, turn-end}
@@ -17,7 +18,7 @@ use Rattle.plan.proofs.start_each.Tie as tie
 
 abbrev Inv-loop : tie.InvT-loop
 Inv-loop text node count len mark₀ n₀ last₀ i₀ mark n last i =
-    (i ≤ len) × Turn text (λ (ys : List Start). onLine (startLine count (lastFrom 0 ys))) (begun node) (remains text (λ (ys : List Start). onLine (startLine count (lastFrom 0 ys))) (begun node) len [] (leftAt text mark₀)) i (len - i) mark (n, last)
+    (i ≤ len) × Turn text (λ (ys : List Start). onLine (startLine count (lastFrom beforeFirst ys))) (begun node) (remains text (λ (ys : List Start). onLine (startLine count (lastFrom beforeFirst ys))) (begun node) len [] (leftAt text mark₀)) i (len - i) mark (n, last)
 
 abbrev μ-loop : tie.MeasureT-loop
 μ-loop text node count len mark₀ n₀ last₀ i₀ mark n last i = len - i
@@ -35,8 +36,8 @@ returns c =
     let start-at = c .before .before .before .start-at in
     let turn = c .before .before .before .before .before .loop in
     mapped-on _ _ (begun (args .node)) (withEach withStart (args .node)) _
-    (turn-stop _ _ _ (turn .inv .1) (λ (x : Start). x) (start-read _ (turn .mark) (args .count) (args .node) (turn .inv .1 .xs) (start-at .ensures .0) (turn .inv .1 .made)) (left-one _ _ (loop-test .taken)) (args .node, 0) (c .if1 .taken))
-    (λ starts e. ap (λ (b : Node × ℕ). b .0) e)
+    (turn-stop _ _ _ (turn .inv .1) (λ (x : Start). x) (start-read _ (turn .mark) (args .count) (args .node) (turn .inv .1 .xs) (start-at .ensures .0) (turn .inv .1 .made)) (left-one _ _ (loop-test .taken)) (args .node, beforeFirst) (c .if1 .taken))
+    (λ starts e. ap (λ (b : Node × ProcessNumber). b .0) e)
 
 index-requires : tie.Need-index-requires Inv-loop μ-loop
 index-requires c κs = search needs
@@ -46,12 +47,12 @@ fresh-requires c κs = search needs
 
 mul-p : tie.Need-mul-p Inv-loop μ-loop
 mul-p c =
-    let start-at = c .before .before .before .before .before .before .start-at in
+    let start-at = c .before .before .before .before .before .before .before .before .start-at in
     omega (arith, c .before .index .ensures, start-at .ensures .1)
 
 element-set-from-p : tie.Need-element-set-from-p Inv-loop μ-loop
 element-set-from-p c =
-    let start-at = c .before .before .before .before .before .before .start-at in
+    let start-at = c .before .before .before .before .before .before .before .before .start-at in
     omega (arith, c .before .index .ensures, start-at .ensures .1)
 
 add-i : tie.Need-add-i Inv-loop μ-loop
@@ -62,11 +63,11 @@ loop-less c = search needs
 
 loop-again : tie.Need-loop-again Inv-loop μ-loop
 loop-again c =
-    let args = c .before .before .before .before .before .before .before .before .before .before .args in
-    let if1 = c .before .before .before .if1 in
-    let loop-test = c .before .before .before .before .before .before .before .loop-test in
-    let start-at = c .before .before .before .before .before .before .start-at in
-    let turn = c .before .before .before .before .before .before .before .before .loop in (
+    let args = c .before .before .before .before .before .before .before .before .before .before .before .before .args in
+    let if1 = c .before .before .before .before .before .if1 in
+    let loop-test = c .before .before .before .before .before .before .before .before .before .loop-test in
+    let start-at = c .before .before .before .before .before .before .before .before .start-at in
+    let turn = c .before .before .before .before .before .before .before .before .before .before .loop in (
       search needs,
       turn-more _ _ _ (turn .inv .1) (λ (x : Start). x) (start-read _ (turn .mark) (args .count) (args .node) (turn .inv .1 .xs) (start-at .ensures .0) (turn .inv .1 .made)) (left-one _ _ (loop-test .taken)) (if1 .left)
           (λ x e. begun-more (args .node) (turn .inv .1 .xs) (started (turn .n) (start-at .result .start) (c .before .index .ensures) (c .fresh .ensures)) (turn .inv .1 .made) e),
@@ -75,7 +76,7 @@ loop-again c =
 returns-2 : tie.Need-returns-2 Inv-loop μ-loop
 returns-2 c =
     let args = c .before .before .before .args in
-    mapped-on _ _ (begun (args .node)) (withEach withStart (args .node)) _ (turn-end _ _ _ (c .before .loop .inv .1) (omega arith)) (λ starts e. ap (λ (b : Node × ℕ). b .0) e)
+    mapped-on _ _ (begun (args .node)) (withEach withStart (args .node)) _ (turn-end _ _ _ (c .before .loop .inv .1) (omega arith)) (λ starts e. ap (λ (b : Node × ProcessNumber). b .0) e)
 
 pub start-each-spec : {M : Type 1} → statement M
 start-each-spec =

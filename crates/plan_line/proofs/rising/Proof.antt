@@ -13,7 +13,7 @@ returns c = simp (ne-eqb _ _ (c .if1 .taken))
 returns-2 : tie.Need-returns-2
 unfolding risen
 returns-2 c =
-    let if1 = c .before .before .if1 in
+    let if1 = c .before .before .before .if1 in
     simp (eq-eqb _ _ (if1 .left), lt-ltb _ _ (c .if2 .taken))
 
 no-start-requires : tie.Need-no-start-requires
@@ -22,7 +22,7 @@ no-start-requires c κs = search needs
 returns-3 : tie.Need-returns-3
 unfolding risen
 returns-3 c =
-    let if1 = c .before .before .before .if1 in
+    let if1 = c .before .before .before .before .if1 in
     c .no-start .ensures ∙ simp (eq-eqb _ _ (if1 .left), le-ltb _ _ (c .before .if2 .left))
 
 pub rising-spec : {M : Type 1} → statement M

@@ -1,12 +1,12 @@
 -- `read` gives the steps of a text. The invariant: the lines before the place are steps, and those are stored. Assumes nothing.
-use mathlib.Core.Path.{_≡_, refl}
+use mathlib.Core.Path.{_≡_, refl, ap}
 use Prim.Native.Nat.{_-_, _≤_}
 use native.Mathlib.Omega.{arith}
 use borrow.Author.Needs.{needs}
 use borrow.Author.Tests.{lt-ltb}
 use lib.ListN.{length}
 use Rattle.text.proofs.Parts.{place-after, place-inside}
-use Rattle.schedule.specs.Reading.{scheduleOf}
+use Rattle.schedule.specs.Reading.{lineOf, scheduleOf}
 use Rattle.schedule.proofs.Lines.{So, so-none, so-room, so-unended, so-malformed, so-more, so-over, so-all}
 use Rattle.schedule.proofs.read.Statement.{statement}
 use Rattle.schedule.proofs.read.Tie as tie
@@ -79,7 +79,7 @@ returns-3 c =
     let if2 = c .before .before .before .before .before .if2 in
     let read-line = c .before .before .before .read-line in
     let turn = c .before .before .before .before .before .before .before .before .loop in
-    so-malformed (turn .inv .3) (turn .inv .2) (turn .inv .0) (find .ensures) (if2 .left) (read-line .ensures) (c .before .enum-told .given .1) (c .refused3 .ensures)
+    so-malformed (turn .inv .3) (turn .inv .2) (turn .inv .0) (find .ensures) (if2 .left) (read-line .ensures) (ap lineOf (c .before .enum-told .given .1)) (c .refused3 .ensures)
 
 slice-aggregate-store : tie.Need-slice-aggregate-store Inv-loop μ-loop
 slice-aggregate-store c =
@@ -111,7 +111,7 @@ loop-again c =
       search needs,
       omega (arith, place-after 10 _ (turn .inv .0) (find .ensures)),
       turn .inv .2,
-      so-more (turn .inv .3) (turn .inv .2) (turn .inv .0) (find .ensures) (if2 .left) (read-line .ensures) (line .given .1) (c .before .store .ensures),
+      so-more (turn .inv .3) (turn .inv .2) (turn .inv .0) (find .ensures) (if2 .left) (read-line .ensures) (ap lineOf (line .given .1)) (c .before .store .ensures),
     )
 
 refused-requires-4 : tie.Need-refused-requires-4 Inv-loop μ-loop

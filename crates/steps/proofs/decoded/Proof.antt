@@ -1,22 +1,19 @@
--- `decoded` makes the steps that the first of the numbers stand for. Assumes nothing.
+-- `decoded` makes the steps that the numbers stand for. Assumes nothing.
 use mathlib.Core.Path.{_≡_, refl, _∙_}
 use Prim.Native.Nat.{_-_, _≤_, _<_}
 use native.Mathlib.Omega.{arith}
 use borrow.Author.Needs.{needs}
 use lib.ListN.{length, length-set}
-use Rattle.steps.specs.Enough.{most}
-use Rattle.steps.proofs.Laws.{enoughIn, Made, made-more}
+use lib.Seq.{take-all}
+use Rattle.steps.proofs.Laws.{Made, made-more}
 use Rattle.steps.proofs.decoded.Statement.{statement}
 use Rattle.steps.proofs.decoded.Tie as tie
 
 abbrev Inv-loop : tie.InvT-loop
-Inv-loop numbers top steps₀ i₀ steps i = (i ≤ enoughIn numbers) × (length steps ≡ most) × Made numbers steps i
+Inv-loop numbers steps₀ i₀ steps i = (i ≤ length numbers) × (length steps ≡ 4096) × Made numbers steps i
 
 abbrev μ-loop : tie.MeasureT-loop
-μ-loop numbers top steps₀ i₀ steps i = top - i
-
-enough-requires : tie.Need-enough-requires Inv-loop μ-loop
-enough-requires c κs = search needs
+μ-loop numbers steps₀ i₀ steps i = length numbers - i
 
 blanks-requires : tie.Need-blanks-requires Inv-loop μ-loop
 blanks-requires c κs = search needs
@@ -50,23 +47,21 @@ loop-again c =
     let its-step-of = c .step-of in
     let its-loop-test = c .before .before .loop-test in
     let its-loop = c .before .before .before .loop in
-    let its-enough = c .before .before .before .before .before .enough in
-    let its-args = c .before .before .before .before .before .before .before .args in
-    let small : its-loop .i < enoughIn (its-args .numbers .now) = rw (its-enough .ensures) at (its-loop-test .taken) in (
+    let its-args = c .before .before .before .before .before .before .args in
+    let small : its-loop .i < length (its-args .numbers .now) = its-loop-test .taken in
+    let its-args-few = c .before .before .before .before .before .before .pre in (
       omega (arith, small),
       length-set (its-loop .steps) (its-loop .i) (its-step-of .result) ∙ its-loop .inv .1,
-      made-more (its-args .numbers .now) (its-loop .steps) (its-loop .i) (its-step-of .result) (omega (arith, small)) (omega (arith, small, its-loop .inv .1)) (its-step-of .ensures) (its-loop .inv .2),
+      made-more (its-args .numbers .now) (its-loop .steps) (its-loop .i) (its-step-of .result) small (omega (arith, small, its-loop .inv .1, its-args-few)) (its-step-of .ensures) (its-loop .inv .2),
     )
 
 returns : tie.Need-returns Inv-loop μ-loop
 returns c =
     let its-loop-test = c .loop-test in
     let its-loop = c .before .loop in
-    let its-enough = c .before .before .before .enough in
-    let its-args = c .before .before .before .before .before .args in
-    let past : enoughIn (its-args .numbers .now) ≤ its-loop .i = rw (its-enough .ensures) at (its-loop-test .left) in
-    let all : its-loop .i ≡ enoughIn (its-args .numbers .now) = omega (arith, past, its-loop .inv .0) in
-    rw all at (its-loop .inv .2)
+    let its-args = c .before .before .before .before .args in
+    let all : its-loop .i ≡ length (its-args .numbers .now) = omega (arith, its-loop-test .left, its-loop .inv .0) in
+    rw (all, take-all (length (its-args .numbers .now)) (its-args .numbers .now) (omega arith)) at (its-loop .inv .2)
 
 pub decoded-spec : {M : Type 1} → statement M
 decoded-spec =
@@ -74,7 +69,6 @@ decoded-spec =
     (tie.spec
     Inv-loop
     μ-loop
-    enough-requires
     blanks-requires
     loop-holds
     mul-step-of

@@ -15,7 +15,7 @@ use Rattle.soundness.proofs.flight.row_sound.Statement.{statement}
 use Rattle.soundness.proofs.flight.row_sound.Tie as tie
 
 abbrev Inv-loop : tie.InvT-loop
-Inv-loop j i row count n k₀ k = (k ≤ n) × (allOf (signalSound j i) (signals row) ≡ allFrom (λ t x. signalSound j i x) k (drop k (signals row)))
+Inv-loop j i row count n k₀ k = (k ≤ n) × (allOf (signalSound (j .0) (i .0)) (signals row) ≡ allFrom (λ t x. signalSound (j .0) (i .0) x) k (drop k (signals row)))
 
 abbrev μ-loop : tie.MeasureT-loop
 μ-loop j i row count n k₀ k = n - k
@@ -30,7 +30,7 @@ cast-n c = search needs
 loop-holds : tie.Need-loop-holds Inv-loop μ-loop
 loop-holds c =
     let a = c .before .args in
-    (search needs, allOf-from (signalSound (a .j) (a .i)) 0 (signals (a .t3)))
+    (search needs, allOf-from (signalSound (a .j .0) (a .i .0)) 0 (signals (a .t3)))
 
 mul-cell : tie.Need-mul-cell Inv-loop μ-loop
 mul-cell c = search needs
@@ -47,7 +47,7 @@ returns-2 c =
     let a = c .before .before .before .before .before .before .args in
     let l = c .before .before .before .before .loop in
     let m = a .t3 in
-    let test = signalSound (a .j) (a .i) in
+    let test = signalSound (a .j .0) (a .i .0) in
     let h : l .k < m .count = omega arith in
     let n : length (signals m) ≡ m .count = signals-length m in
     rw (n, le-leb _ _ (c .before .before .before .before .before .if1 .left)) (all-stop (λ t x. test x) (signals m) (l .k) (l .k) (noSignal .signal) (omega arith) (ap test (signals-at m (l .k) h) ∙ failed (c .before .signal-sound .ensures) (c .if2 .taken)) (l .inv .1))
@@ -63,7 +63,7 @@ loop-again c =
     let a = c .before .before .before .before .before .before .args in
     let l = c .before .before .before .before .loop in
     let m = a .t3 in
-    let test = signalSound (a .j) (a .i) in
+    let test = signalSound (a .j .0) (a .i .0) in
     let h : l .k < m .count = omega arith in
     let n : length (signals m) ≡ m .count = signals-length m in
     (search needs, all-more (λ t x. test x) (signals m) (l .k) (l .k) (noSignal .signal) (omega arith) (ap test (signals-at m (l .k) h) ∙ passed (c .before .signal-sound .ensures) (c .if2 .left)) (l .inv .1))
@@ -75,7 +75,7 @@ returns-3 c =
     let l = c .before .loop in
     let m = a .t3 in
     let n : length (signals m) ≡ m .count = signals-length m in
-    rw (n, le-leb _ _ (c .before .before .if1 .left)) (all-end (λ t x. signalSound (a .j) (a .i) x) (signals m) (l .k) (l .k) (noSignal .signal) (omega arith) (l .inv .1))
+    rw (n, le-leb _ _ (c .before .before .if1 .left)) (all-end (λ t x. signalSound (a .j .0) (a .i .0) x) (signals m) (l .k) (l .k) (noSignal .signal) (omega arith) (l .inv .1))
 
 pub row-sound-spec : {M : Type 1} → statement M
 row-sound-spec =

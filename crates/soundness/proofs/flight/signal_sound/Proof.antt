@@ -28,10 +28,10 @@ returns-2 : tie.Need-returns-2
 returns-2 c = rw (c .before .before .x2 .given .1) (c .value-sound2 .ensures)
 
 returns-3 : tie.Need-returns-3
-returns-3 c = rw (c .enum-told .given .1)
+returns-3 c = rw (c .before .before .enum-told .given .1)
 
 returns-4 : tie.Need-returns-4
-returns-4 c = rw (c .enum-told2 .given .1)
+returns-4 c = rw (c .before .before .enum-told2 .given .1)
 
 pub signal-sound-spec : {M : Type 1} → statement M
 signal-sound-spec =

@@ -21,7 +21,7 @@ running-sound-requires c κs = search needs
 returns : tie.Need-returns
 returns c =
     let a = c .before .before .before .before .args in
-    told-in (a .count) (lengthIn (a .count) (a .lens) (a .p .behaviour .0)) (eqb (a .there) 11) (a .i) (a .p) (a .m) (c .before .before .enum-told2 .given .1) (rw (failed (c .before .running-sound .ensures) (c .if1 .taken)))
+    told-in (a .count) (lengthIn (a .count) (a .lens) (a .p .behaviour .0)) (eqb (a .there) 11) (a .i .0) (a .p) (a .m) (c .before .before .enum-told2 .given .1) (rw (failed (c .before .running-sound .ensures) (c .if1 .taken)))
 
 in-links-requires : tie.Need-in-links-requires
 in-links-requires c κs = search needs
@@ -35,7 +35,7 @@ value-sound-requires c κs = search needs
 returns-2 : tie.Need-returns-2
 returns-2 c =
     let a = c .before .before .before .before .args in
-    told-in (a .count) (lengthIn (a .count) (a .lens) (a .p .behaviour .0)) (eqb (a .there) 11) (a .i) (a .p) (a .m) (c .before .before .enum-told3 .given .1) (rw (failed (c .before .value-sound .ensures) (c .if2 .taken)))
+    told-in (a .count) (lengthIn (a .count) (a .lens) (a .p .behaviour .0)) (eqb (a .there) 11) (a .i .0) (a .p) (a .m) (c .before .before .enum-told3 .given .1) (rw (failed (c .before .value-sound .ensures) (c .if2 .taken)))
 
 in-links-requires-2 : tie.Need-in-links-requires-2
 in-links-requires-2 c κs = search needs
@@ -46,22 +46,22 @@ enum-told-4 c = search needs
 returns-3 : tie.Need-returns-3
 returns-3 c =
     let a = c .before .before .args in
-    told-in (a .count) (lengthIn (a .count) (a .lens) (a .p .behaviour .0)) (eqb (a .there) 11) (a .i) (a .p) (a .m) (c .enum-told .given .1) refl
+    told-in (a .count) (lengthIn (a .count) (a .lens) (a .p .behaviour .0)) (eqb (a .there) 11) (a .i .0) (a .p) (a .m) (c .enum-told .given .1) refl
 
 returns-4 : tie.Need-returns-4
 returns-4 c =
     let a = c .before .before .before .before .before .args in
-    told-in (a .count) (lengthIn (a .count) (a .lens) (a .p .behaviour .0)) (eqb (a .there) 11) (a .i) (a .p) (a .m) (c .before .before .before .enum-told2 .given .1) (rw (passed (c .before .before .running-sound .ensures) (c .before .if1 .left)) (ap not (c .in-links .ensures)))
+    told-in (a .count) (lengthIn (a .count) (a .lens) (a .p .behaviour .0)) (eqb (a .there) 11) (a .i .0) (a .p) (a .m) (c .before .before .before .enum-told2 .given .1) (rw (passed (c .before .before .running-sound .ensures) (c .before .if1 .left)) (ap not (c .in-links .ensures)))
 
 returns-5 : tie.Need-returns-5
 returns-5 c =
     let a = c .before .before .before .before .before .args in
-    told-in (a .count) (lengthIn (a .count) (a .lens) (a .p .behaviour .0)) (eqb (a .there) 11) (a .i) (a .p) (a .m) (c .before .before .before .enum-told3 .given .1) (rw (passed (c .before .before .value-sound .ensures) (c .before .if2 .left)) (ap not (c .in-links2 .ensures)))
+    told-in (a .count) (lengthIn (a .count) (a .lens) (a .p .behaviour .0)) (eqb (a .there) 11) (a .i .0) (a .p) (a .m) (c .before .before .before .enum-told3 .given .1) (rw (passed (c .before .before .value-sound .ensures) (c .before .if2 .left)) (ap not (c .in-links2 .ensures)))
 
 returns-6 : tie.Need-returns-6
 returns-6 c =
     let a = c .before .before .args in
-    told-in (a .count) (lengthIn (a .count) (a .lens) (a .p .behaviour .0)) (eqb (a .there) 11) (a .i) (a .p) (a .m) (c .enum-told4 .given .1) refl
+    told-in (a .count) (lengthIn (a .count) (a .lens) (a .p .behaviour .0)) (eqb (a .there) 11) (a .i .0) (a .p) (a .m) (c .enum-told4 .given .1) refl
 
 pub process-sound-spec : {M : Type 1} → statement M
 process-sound-spec =

@@ -46,11 +46,11 @@ mul-op c = search needs
 array-copy-out-op : tie.Need-array-copy-out-op Inv-loop μ-loop
 array-copy-out-op c = search needs
 
-add-process-sound : tie.Need-add-process-sound Inv-loop μ-loop
-add-process-sound c = search needs
+add-number : tie.Need-add-number Inv-loop μ-loop
+add-number c = search needs
 
-cast-process-sound : tie.Need-cast-process-sound Inv-loop μ-loop
-cast-process-sound c = search needs
+cast-number : tie.Need-cast-number Inv-loop μ-loop
+cast-number c = search needs
 
 process-sound-requires : tie.Need-process-sound-requires Inv-loop μ-loop
 process-sound-requires c κs = search needs
@@ -110,8 +110,8 @@ processes-sound-spec =
     place-index-requires
     mul-op
     array-copy-out-op
-    add-process-sound
-    cast-process-sound
+    add-number
+    cast-number
     process-sound-requires
     returns
     add-i
