@@ -10,7 +10,6 @@ use mathlib.Core.Bool.{Bool, true, false, cond, _||_}
 use mathlib.Core.List.{List, [], _∷_, _++_, map, append-assoc, append-nil}
 use mathlib.Core.Path.{_≡_, refl, sym, ap, _∙_}
 use Prim.Native.Nat.{ℕ, _+_, _≤_, _<_}
-use native.Mathlib.Nat.{add-sub-cancel}
 use native.Mathlib.Numerals.{add-one}
 use native.Mathlib.Omega.{arith}
 use borrow.Author.Tests.{le-leb}
@@ -20,6 +19,7 @@ use Rattle.node.proofs.Lists.{firsts-length, firsts-getD}
 use Rattle.node.specs.declared.Cell.{Cell}
 use Rattle.node.specs.declared.Mailbox.{Mailbox}
 use Rattle.node.specs.declared.Message.{Message}
+use Rattle.node.specs.declared.Peers.{Peers}
 use Rattle.node.specs.declared.Process.{Process}
 use Rattle.node.specs.declared.Row.{Row}
 use Rattle.node.specs.declared.Signal.{Signal}
@@ -28,11 +28,11 @@ use Rattle.node.specs.declared.Stage.{Stage}
 use Rattle.node.specs.declared.Value.{Value}
 use Rattle.node.specs.Lists.{firsts}
 use Rattle.node.specs.Mailboxes.{messages, noMessage}
-use Rattle.node.specs.Processes.{linksTo}
+use Rattle.node.specs.Sets.{has}
 use Rattle.node.specs.Rows.{signals, noSignal}
 use Rattle.rules.proofs.All.{rising-at}
 use Rattle.rules.proofs.Kept.{signals-length}
-use Rattle.rules.specs.Nodes.{standing, standingIn, linkSet}
+use Rattle.rules.specs.Nodes.{standing, standingIn, setOf}
 use Rattle.rules.specs.Values.{numbers, isNumber}
 use Rattle.text.proofs.Writing.{Left, left-all, left-more, left-none, left-item, left-end, wrote-then}
 use Rattle.text.specs.Writing.{top, Wrote, digits, digitsIn, each}
@@ -103,17 +103,18 @@ commaed-next false false j l = refl
 number-at : (k : ℕ) → k < 16 → getD numbers k 0 ≡ k + 1
 number-at k h = let e : 1 + k ≡ k + 1 = omega arith in rising-at 1 16 k 0 h ∙ e
 
-link-at : (p : Process) (k : ℕ) → k < 16 → linkSet p (k + 1) ≡ getD (p .links) k false
-unfolding linkSet isNumber linksTo
-link-at p k h = rw (le-leb 1 (k + 1) (omega arith), le-leb (k + 1) 16 (omega arith), add-sub-cancel k 1)
+set-at : (s : Peers) (k : ℕ) → k < 16 → setOf s (k + 1) ≡ has s (k + 1)
+unfolding setOf isNumber
+set-at s k h = rw (le-leb 1 (k + 1) (omega arith), le-leb (k + 1) 16 (omega arith))
 
-module _ (p : Process) (k : ℕ) (later : Bool) {o text m : List ℕ} {a e : ℕ} (w : Left o a text m e (commaed later (members (linkSet p) (drop k numbers)))) where
-  pub left-member : {u : List ℕ} {r : ℕ} → k < 16
-      → Wrote m e (cond (getD (p .links) k false) (cond later (comma ++ digits (k + 1)) (digits (k + 1))) []) u r
-      → Left o a text u r (commaed (later || getD (p .links) k false) (members (linkSet p) (drop (k + 1) numbers)))
+module _ (s : Peers) (k : ℕ) (later : Bool) {o text m : List ℕ} {a e : ℕ} (w : Left o a text m e (commaed later (members (setOf s) (drop k numbers)))) where
+  -- b: whether process k + 1 is there
+  pub left-member : {u : List ℕ} {r : ℕ} {b : Bool} → k < 16 → b ≡ has s (k + 1)
+      → Wrote m e (cond b (cond later (comma ++ digits (k + 1)) (digits (k + 1))) []) u r
+      → Left o a text u r (commaed (later || b) (members (setOf s) (drop (k + 1) numbers)))
   unfolding members
-  left-member h q =
-      left-more (rw (drop-next numbers k 0 h, number-at k h, link-at p k h, commaed-next (getD (p .links) k false) later (k + 1) (members (linkSet p) (drop (k + 1) numbers))) at w) q
+  left-member {b = b} h is q =
+      left-more (rw (drop-next numbers k 0 h, number-at k h, set-at s k h, ← is, commaed-next b later (k + 1) (members (setOf s) (drop (k + 1) numbers))) at w) q
 
   pub left-members-end : 16 ≤ k → Wrote o a text m e
   unfolding members commaed each withCommas

@@ -33,12 +33,12 @@ use Rattle.rules.proofs.Living.{Placed, Alive, alive}
 use Rattle.rules.proofs.Places.{code-short}
 use Rattle.rules.proofs.Records.{number-bounds}
 use Rattle.rules.specs.Behaviours.{Instruction, codeSound}
-use Rattle.rules.specs.Nodes.{live, running, linkSet, standing, standingIn, standingSound, signalSound, rowSound}
+use Rattle.rules.specs.Nodes.{live, running, setOf, standing, standingIn, standingSound, signalSound, rowSound}
 use Rattle.rules.specs.Values.{numbers, isNumber, fitsInt, valueSound, messageSound}
 use Rattle.text.proofs.Digits.{digits-length}
 use Rattle.text.specs.Values.{valueText, numberText}
 use Rattle.text.specs.Writing.{digits, intText, each}
-use Rattle.listing_lines.specs.Lines.{lineEnd, comma, numberLine, valueLine, eachFrom, flag, joinsIf, members, withCommas, linksLine, registerLine, messageLine, mailText, standingText, signalLine, flightLine, pairText}
+use Rattle.listing_lines.specs.Lines.{lineEnd, comma, numberLine, valueLine, eachFrom, flag, joinsIf, members, withCommas, setLine, registerLine, messageLine, mailText, standingText, signalLine, flightLine, pairText}
 use Rattle.listing_lines.specs.Words.{processKey, liveLine, closingLine, goneLine, behaviourKey, placeKey, trapKey, linksKey, reasonKey, mailKey, messageKey, noteKey, flightKey, msgKey, exitKey, linkLine, unlinkLine}
 
 pub record Within (s : List ℕ) (k : ℕ) : Type 0 where
@@ -129,9 +129,10 @@ unfolding withCommas each withComma
 commas-within [] p = p
 commas-within (j ∷ l) p = record { most = omega (arith, p .most) }
 
-links-within : (links : ℕ → Bool) → Within (linksLine links) 55
-unfolding linksLine
-links-within links = line-within linksKey (commas-within (members links numbers) (members-within links numbers refl))
+-- a set of all sixteen, behind a key
+set-within : (key : List ℕ) (set : ℕ → Bool) → Within (setLine key set) (length key + 48 + 1)
+unfolding setLine
+set-within key set = line-within key (commas-within (members set numbers) (members-within set numbers refl))
 
 -- ---- mailboxes
 message-within : (m : Message) → So (messageSound m) → Within (messageLine m) 22
@@ -182,7 +183,7 @@ module _ (codes : List (List Instruction)) (few : length codes ≤ 8) (checked :
         ⊕ (register-within 1 (omega arith) (p .r1) (v .v1)
         ⊕ (register-within 2 (omega arith) (p .r2) (v .v2)
         ⊕ (register-within 3 (omega arith) (p .r3) (v .v3) ⊕ exactly []))))
-        ⊕ numberLine-within trapKey (flag (p .trap)) (flag-within (p .trap)) ⊕ links-within (linkSet p)
+        ⊕ numberLine-within trapKey (flag (p .trap)) (flag-within (p .trap)) ⊕ set-within linksKey (setOf (p .links))
         ⊕ mail-within (messages m) (leb-true (length (messages m)) 16 (a .mailed .few)) (a .mailed .sound)
 
     module _ (h : So (standingSound codes i (standing p m))) where
@@ -192,9 +193,9 @@ module _ (codes : List (List Instruction)) (few : length codes ≤ 8) (checked :
       stage-within Live e = live-within (alive codes i p m e h)
       stage-within Closing e =
           let g : So (standingSound codes i (standingIn Closing p m)) = subst (λ (s : Stage). So (standingSound codes i (standingIn s p m))) e h in
-          let t = parts (valueSound (p .reason)) (not (linkSet p i)) g in
+          let t = parts (valueSound (p .reason)) (not (setOf (p .links) i)) g in
           loosely longestProcess (omega arith)
-          (numberLine-within processKey i (two-digits i low) ⊕ exactly closingLine ⊕ valueLine-within reasonKey (p .reason) (t .0) ⊕ links-within (linkSet p))
+          (numberLine-within processKey i (two-digits i low) ⊕ exactly closingLine ⊕ valueLine-within reasonKey (p .reason) (t .0) ⊕ set-within linksKey (setOf (p .links)))
       stage-within Gone e = loosely longestProcess (omega arith) (numberLine-within processKey i (two-digits i low) ⊕ exactly goneLine)
 
       pub standing-within : Within (standingText i (standing p m)) longestProcess

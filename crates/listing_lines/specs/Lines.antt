@@ -3,9 +3,9 @@
 --   numberLine key n      a line with a number;  valueLine key v  a line with a value
 --   eachFrom f i xs       the texts of the elements of xs with their numbers, the first having number i
 --   flag b                0 or 1
---   members links l       the numbers of l that a link set has
+--   members set l         the numbers of l that a set has
 --   withCommas l          numbers with commas between them
---   linksLine links       a link set
+--   setLine key set       a key and a set of processes
 --   registerLine k v      register k
 --   messageLine m         a message;  mailText ms  a mailbox
 --   standingText i s      process i;  an unborn one has no text
@@ -52,16 +52,16 @@ joinsIf true j l = j ∷ l
 joinsIf false j l = l
 
 unfoldable pub members : (ℕ → Bool) → List ℕ → List ℕ
-members links [] = []
-members links (j ∷ l) = joinsIf (links j) j (members links l)
+members set [] = []
+members set (j ∷ l) = joinsIf (set j) j (members set l)
 
 unfoldable pub withCommas : List ℕ → List ℕ
 withCommas [] = []
 withCommas (j ∷ l) = digits j ++ each (λ (k : ℕ). comma ++ digits k) l
 
 -- "links are rising numbers with commas"
-unfoldable pub linksLine : (ℕ → Bool) → List ℕ
-linksLine links = linksKey ++ withCommas (members links numbers) ++ lineEnd
+unfoldable pub setLine : List ℕ → (ℕ → Bool) → List ℕ
+setLine key set = key ++ withCommas (members set numbers) ++ lineEnd
 
 -- r0= to r3=
 unfoldable pub registerLine : ℕ → Value → List ℕ
@@ -83,8 +83,8 @@ standingText i (live r) =
     numberLine processKey i ++ liveLine
     ++ numberLine behaviourKey (r .behaviour) ++ numberLine placeKey (r .place)
     ++ eachFrom registerLine 0 (r .registers)
-    ++ numberLine trapKey (flag (r .trap)) ++ linksLine (r .links) ++ mailText (r .mail)
-standingText i (closing v links) = numberLine processKey i ++ closingLine ++ valueLine reasonKey v ++ linksLine links
+    ++ numberLine trapKey (flag (r .trap)) ++ setLine linksKey (r .links) ++ mailText (r .mail)
+standingText i (closing v links) = numberLine processKey i ++ closingLine ++ valueLine reasonKey v ++ setLine linksKey links
 standingText i gone = numberLine processKey i ++ goneLine
 
 -- "`signal=msg,V`, `signal=exit,V,b`, `signal=link`, `signal=unlink`"

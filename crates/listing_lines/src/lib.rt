@@ -2,6 +2,7 @@
 // Run over an empty slice a writer counts.
 use node::Mailbox;
 use node::Message;
+use node::Peers;
 use node::Process;
 use node::ProcessNumber;
 use node::Row;
@@ -17,10 +18,10 @@ ghost use mathlib.Core.List.{[], _∷_, _++_};
 ghost use mathlib.Core.Path.{_≡_};
 ghost use Rattle.node.specs.Mailboxes.{messages};
 ghost use Rattle.node.specs.Rows.{signals};
-ghost use Rattle.rules.specs.Nodes.{linkSet, running, live, closing, gone, standing};
+ghost use Rattle.rules.specs.Nodes.{setOf, running, live, closing, gone, standing};
 ghost use Rattle.rules.specs.Values.{numbers};
 ghost use Rattle.text.specs.Writing.{Wrote, digits, each};
-ghost use Rattle.listing_lines.specs.Lines.{comma, numberLine, valueLine, eachFrom, flag, members, withCommas, linksLine, registerLine, messageLine, mailText, standingText, signalLine, flightLine, pairText};
+ghost use Rattle.listing_lines.specs.Lines.{comma, numberLine, valueLine, eachFrom, flag, members, withCommas, setLine, registerLine, messageLine, mailText, standingText, signalLine, flightLine, pairText};
 
 // Process i with its mailbox; an unborn process has no text.
 pub fn put_process(out: &mut [u8], at: usize, i: ProcessNumber, p: Process, m: Mailbox) -> usize
@@ -56,18 +57,20 @@ fn put_live(out: &mut [u8], at: usize, i: ProcessNumber, p: Process, m: Mailbox)
     let e = put_number_line(out, e, b"place=", p.place as u64);
     let e = put_registers(out, e, p);
     let e = put_number_line(out, e, b"trap=", flag(p.trap));
-    let e = put_links(out, e, p);
+    let links = p.links;
+    let e = put_set(out, e, b"links=", links);
     put_mail(out, e, m)
 }
 
 fn put_closing(out: &mut [u8], at: usize, i: ProcessNumber, p: Process) -> usize
-    ensures { λ e. ⌜ Wrote (now (out .entry)) at (standingText (i .0) (closing (p .reason) (linkSet p))) (now (out .exit)) e ⌝ }
+    ensures { λ e. ⌜ Wrote (now (out .entry)) at (standingText (i .0) (closing (p .reason) (setOf (p .links)))) (now (out .exit)) e ⌝ }
 {
     let reason = p.reason;
+    let links = p.links;
     let e = put_number_line(out, at, b"process=", i.0 as u64);
     let e = put_bytes(out, e, b"stage=closing\n");
     let e = put_value_line(out, e, b"reason=", reason);
-    put_links(out, e, p)
+    put_set(out, e, b"links=", links)
 }
 
 fn put_gone(out: &mut [u8], at: usize, i: ProcessNumber) -> usize
@@ -90,34 +93,36 @@ fn put_registers(out: &mut [u8], at: usize, p: Process) -> usize
     put_value_line(out, e, b"r3=", r3)
 }
 
-fn put_links(out: &mut [u8], at: usize, p: Process) -> usize
-    ensures { λ e. ⌜ Wrote (now (out .entry)) at (linksLine (linkSet p)) (now (out .exit)) e ⌝ }
+// A key and a set of processes.
+fn put_set(out: &mut [u8], at: usize, key: &[u8], set: Peers) -> usize
+    ensures { λ e. ⌜ Wrote (now (out .entry)) at (setLine (now (key .entry)) (setOf set)) (now (out .exit)) e ⌝ }
 {
-    let e = put_bytes(out, at, b"links=");
-    let e = put_members(out, e, p);
+    let e = put_bytes(out, at, key);
+    let e = put_members(out, e, set);
     put_byte(out, e, b'\n')
 }
 
-fn put_members(out: &mut [u8], at: usize, p: Process) -> usize
-    ensures { λ e. ⌜ Wrote (now (out .entry)) at (withCommas (members (linkSet p) numbers)) (now (out .exit)) e ⌝ }
+fn put_members(out: &mut [u8], at: usize, set: Peers) -> usize
+    ensures { λ e. ⌜ Wrote (now (out .entry)) at (withCommas (members (setOf set) numbers)) (now (out .exit)) e ⌝ }
 {
     let mut e = at;
     let mut later = false;
-    let mut k = 0;
+    let mut k: u8 = 0;
     while k < 16 {
-        let linked = p.links[k];
-        e = put_member(out, e, linked, later, ProcessNumber((k as u8) + 1));
-        later = later | linked;
+        let j = ProcessNumber(k + 1);
+        let there = set.has(j);
+        e = put_member(out, e, there, later, j);
+        later = later | there;
         k += 1;
     }
     e
 }
 
-// Process j, where it is a link; a comma stands before all but the first.
-fn put_member(out: &mut [u8], at: usize, linked: bool, later: bool, j: ProcessNumber) -> usize
-    ensures { λ e. ⌜ Wrote (now (out .entry)) at (cond linked (cond later (comma ++ digits (j .0)) (digits (j .0))) []) (now (out .exit)) e ⌝ }
+// Process j, where it is there; a comma stands before all but the first.
+fn put_member(out: &mut [u8], at: usize, there: bool, later: bool, j: ProcessNumber) -> usize
+    ensures { λ e. ⌜ Wrote (now (out .entry)) at (cond there (cond later (comma ++ digits (j .0)) (digits (j .0))) []) (now (out .exit)) e ⌝ }
 {
-    if linked {
+    if there {
         if later {
             let e = put_byte(out, at, b',');
             return put_number(out, e, j.0 as u64);

@@ -27,17 +27,20 @@ slice-aggregate-put-value-line c = search needs
 put-value-line-requires : tie.Need-put-value-line-requires
 put-value-line-requires c κs = search needs
 
-put-links-requires : tie.Need-put-links-requires
-put-links-requires c κs = search needs
+slice-aggregate-put-set : tie.Need-slice-aggregate-put-set
+slice-aggregate-put-set c = search needs
+
+put-set-requires : tie.Need-put-set-requires
+put-set-requires c κs = search needs
 
 returns : tie.Need-returns
 unfolding standingText
 returns c =
     let links = c .before .before in
-    let value-line = links .before .before .before .before in
+    let value-line = links .before .before .before .before .before in
     let bytes = value-line .before .before .before .before .before in
     let number-line = bytes .before .before .before .before .before in
-    number-line .put-number-line .ensures ▸ bytes .put-bytes .ensures ▸ value-line .put-value-line .ensures ▸ links .put-links .ensures
+    number-line .put-number-line .ensures ▸ bytes .put-bytes .ensures ▸ value-line .put-value-line .ensures ▸ links .put-set .ensures
 
 same-length : tie.Need-same-length
 same-length c = wrote-length (returns c)
@@ -53,6 +56,7 @@ put-closing-spec =
     put-bytes-requires
     slice-aggregate-put-value-line
     put-value-line-requires
-    put-links-requires
+    slice-aggregate-put-set
+    put-set-requires
     same-length
     returns)

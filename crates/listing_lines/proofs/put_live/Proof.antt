@@ -53,8 +53,11 @@ flag-requires c κs = search needs
 put-number-line-requires-4 : tie.Need-put-number-line-requires-4
 put-number-line-requires-4 c κs = search needs
 
-put-links-requires : tie.Need-put-links-requires
-put-links-requires c κs = search needs
+slice-aggregate-put-set : tie.Need-slice-aggregate-put-set
+slice-aggregate-put-set c = search needs
+
+put-set-requires : tie.Need-put-set-requires
+put-set-requires c κs = search needs
 
 put-mail-requires : tie.Need-put-mail-requires
 put-mail-requires c κs = search needs
@@ -64,7 +67,7 @@ unfolding standingText
 returns c =
     let mail = c .before .before in
     let links = mail .before .before .before .before in
-    let number-line4 = links .before .before .before .before in
+    let number-line4 = links .before .before .before .before .before .before in
     let at-flag = number-line4 .before in
     let registers = at-flag .before .before .before .before .before in
     let number-line3 = registers .before .before .before .before in
@@ -72,7 +75,7 @@ returns c =
     let bytes = number-line2 .before .before .before .before .before .before in
     let number-line = bytes .before .before .before .before .before in
     number-line .put-number-line .ensures ▸ bytes .put-bytes .ensures ▸ number-line2 .put-number-line2 .ensures ▸ number-line3 .put-number-line3 .ensures
-    ▸ registers .put-registers .ensures ▸ wrote-as (ap (numberLine trapKey) (at-flag .flag .ensures)) (number-line4 .put-number-line4 .ensures) ▸ links .put-links .ensures ▸ mail .put-mail .ensures
+    ▸ registers .put-registers .ensures ▸ wrote-as (ap (numberLine trapKey) (at-flag .flag .ensures)) (number-line4 .put-number-line4 .ensures) ▸ links .put-set .ensures ▸ mail .put-mail .ensures
 
 same-length : tie.Need-same-length
 same-length c = wrote-length (returns c)
@@ -96,7 +99,8 @@ put-live-spec =
     slice-aggregate-put-number-line-4
     flag-requires
     put-number-line-requires-4
-    put-links-requires
+    slice-aggregate-put-set
+    put-set-requires
     put-mail-requires
     same-length
     returns)

@@ -1,10 +1,10 @@
--- `put_members` writes the members of a link set. The invariant: what is left to write are the members from k + 1 on,
+-- `put_members` writes the members of a set. The invariant: what is left to write are the members from k + 1 on,
 -- with a comma before the next where one is written. Assumes nothing.
 use Prim.Native.Nat.{_-_}
 use native.Mathlib.Omega.{arith}
 use borrow.Author.Needs.{needs}
 use lib.ListN.{drop}
-use Rattle.rules.specs.Nodes.{linkSet}
+use Rattle.rules.specs.Nodes.{setOf}
 use Rattle.rules.specs.Values.{numbers}
 use Rattle.text.proofs.Writing.{Left, left-all}
 use Rattle.listing_lines.specs.Lines.{members, withCommas}
@@ -13,23 +13,20 @@ use Rattle.listing_lines.proofs.put_members.Statement.{statement}
 use Rattle.listing_lines.proofs.put_members.Tie as tie
 
 abbrev Inv-loop : tie.InvT-loop
-Inv-loop out₀ at p e₀ later₀ k₀ out e later k = Left out₀ at (withCommas (members (linkSet p) numbers)) out e (commaed later (members (linkSet p) (drop k numbers)))
+Inv-loop out₀ at set e₀ later₀ k₀ out e later k = Left out₀ at (withCommas (members (setOf set) numbers)) out e (commaed later (members (setOf set) (drop k numbers)))
 
 abbrev μ-loop : tie.MeasureT-loop
-μ-loop out₀ at p e₀ later₀ k₀ out e later k = 16 - k
+μ-loop out₀ at set e₀ later₀ k₀ out e later k = 16 - k
 
 loop-holds : tie.Need-loop-holds Inv-loop μ-loop
 unfolding commaed
 loop-holds c = left-all _ _ _ (omega arith) (omega arith)
 
-element-copy-out-linked : tie.Need-element-copy-out-linked Inv-loop μ-loop
-element-copy-out-linked c = search needs
+add-t10 : tie.Need-add-t10 Inv-loop μ-loop
+add-t10 c = search needs
 
-cast-t14 : tie.Need-cast-t14 Inv-loop μ-loop
-cast-t14 c = search needs
-
-add-t15 : tie.Need-add-t15 Inv-loop μ-loop
-add-t15 c = search needs
+has-requires : tie.Need-has-requires Inv-loop μ-loop
+has-requires c κs = search needs
 
 put-member-requires : tie.Need-put-member-requires Inv-loop μ-loop
 put-member-requires c κs = search needs
@@ -44,8 +41,9 @@ loop-again : tie.Need-loop-again Inv-loop μ-loop
 loop-again c =
     let turn = c .before .before .before .before .before .before .loop in
     let test = c .before .before .before .before .before .loop-test in
+    let there = c .before .before .before .before .has in
     let put-member = c .before .before .put-member in
-    left-member _ _ _ (turn .inv) (test .taken) (put-member .ensures)
+    left-member _ _ _ (turn .inv) (test .taken) (there .ensures) (put-member .ensures)
 
 same-length : tie.Need-same-length Inv-loop μ-loop
 same-length c = c .before .loop .inv .same
@@ -60,9 +58,8 @@ put-members-spec =
     Inv-loop
     μ-loop
     loop-holds
-    element-copy-out-linked
-    cast-t14
-    add-t15
+    add-t10
+    has-requires
     put-member-requires
     add-k
     loop-less

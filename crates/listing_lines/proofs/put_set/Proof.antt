@@ -1,13 +1,10 @@
--- `put_links` writes the line of a link set. Assumes nothing.
+-- `put_set` writes a key and a set of processes. Assumes nothing.
 use borrow.Author.Needs.{needs}
 use Rattle.text.proofs.Writing.{wrote-length}
-use Rattle.listing_lines.specs.Lines.{linksLine}
+use Rattle.listing_lines.specs.Lines.{setLine}
 use Rattle.listing_lines.proofs.Laws.{_▸_}
-use Rattle.listing_lines.proofs.put_links.Statement.{statement}
-use Rattle.listing_lines.proofs.put_links.Tie as tie
-
-slice-aggregate-put-bytes : tie.Need-slice-aggregate-put-bytes
-slice-aggregate-put-bytes c = search needs
+use Rattle.listing_lines.proofs.put_set.Statement.{statement}
+use Rattle.listing_lines.proofs.put_set.Tie as tie
 
 put-bytes-requires : tie.Need-put-bytes-requires
 put-bytes-requires c κs = search needs
@@ -19,7 +16,7 @@ put-byte-requires : tie.Need-put-byte-requires
 put-byte-requires c κs = search needs
 
 returns : tie.Need-returns
-unfolding linksLine
+unfolding setLine
 returns c =
     let byte = c .before .before in
     let members = byte .before .before .before .before in
@@ -29,11 +26,10 @@ returns c =
 same-length : tie.Need-same-length
 same-length c = wrote-length (returns c)
 
-pub put-links-spec : {M : Type 1} → statement M
-put-links-spec =
+pub put-set-spec : {M : Type 1} → statement M
+put-set-spec =
     tie.close
     (tie.spec
-    slice-aggregate-put-bytes
     put-bytes-requires
     put-members-requires
     put-byte-requires
