@@ -10,6 +10,7 @@ use Rattle.node.specs.declared.Message.{Message}
 use Rattle.node.specs.declared.Message.the-variants.{Plain, Note}
 use Rattle.node.specs.declared.Node.{Node}
 use Rattle.node.specs.declared.Op.{Op}
+use Rattle.node.specs.declared.Peers.{Peers}
 use Rattle.node.specs.declared.Process.{Process}
 use Rattle.node.specs.declared.Signal.{Signal}
 use Rattle.node.specs.declared.Signal.the-variants.{Msg, Exit, Link}
@@ -21,11 +22,12 @@ use Rattle.node.specs.Mailboxes.{noMessage, emptyMailbox, messages, joined, wit
 use Rattle.node.specs.Nodes.{pair}
 use Rattle.node.specs.Ops.{stopOp, kindsOf}
 use Rattle.node.specs.Processes.{unborn, fresh, register, withRegister, moved, advanced, trapped, linksTo, linked, unlinked, ended, gone, withPlace}
+use Rattle.node.specs.Sets.{noPeers, bitsOf, has, withPeer, withoutPeer, lowestPeer}
 use Rattle.node.specs.Rows.{noSignal, emptyRow, signals, oldest, pushed, popped}
 use Rattle.node.specs.Values.{intZero, normal, kill, killed, badarith, pid}
 use Rattle.rules.specs.Arrive.{arrives, exits}
 use Rattle.rules.specs.Behaviours.{operand, instruction, operandInRange, inRange, hasClauses, targetsFree, wellPlaced, codeSound}
-use Rattle.rules.specs.Nodes.{Sound, sound, shaped, viewSound, view, behavioursOf, code, linkSet, standing, runningSound, rowSound}
+use Rattle.rules.specs.Nodes.{Sound, sound, shaped, viewSound, view, behavioursOf, code, setOf, standing, runningSound, rowSound}
 use Rattle.rules.specs.Receive.{receives, fits}
 use Rattle.rules.specs.Run.{runs, runsLive, runsOp, closes}
 use Rattle.rules.specs.Steps.{Action, run, arrive, meaning, Played, play, played, step, rule, ready, commit, incoming, decide, at, numbered, ownerBorn, signalWaits, pairHasRoom, numberFree}
@@ -69,16 +71,16 @@ world p ms j i xs = record {
     count = lib.ListN.length
 
 -- process 1 in behaviour b, with r0 = v, r1 = w, the trap flag and the links
-rower : ℕ → Value → Value → Bool → List Bool → Process
+rower : ℕ → Value → Value → Bool → Peers → Process
 rower b v w f links = record { stage = Live; behaviour = record { 0 = b }; place = 0; r0 = v; r1 = w; r2 = intZero; r3 = intZero; trap = f; links = links; reason = intZero }
 
 -- process 1 in behaviour 1, ended with a reason: its registers r0 and r1, its trap flag and its links
-closed : Value → Value → Bool → List Bool → Value → Process
+closed : Value → Value → Bool → Peers → Value → Process
 closed v w f links reason = record { stage = Closing; behaviour = record { 0 = 1 }; place = 0; r0 = v; r1 = w; r2 = intZero; r3 = intZero; trap = f; links = links; reason = reason }
 
 -- process 1, gone
 left : Process
-left = record { stage = Gone; behaviour = record { 0 = 1 }; place = 0; r0 = intZero; r1 = intZero; r2 = intZero; r3 = intZero; trap = false; links = replicate 16 false; reason = normal }
+left = record { stage = Gone; behaviour = record { 0 = 1 }; place = 0; r0 = intZero; r1 = intZero; r2 = intZero; r3 = intZero; trap = false; links = noPeers; reason = normal }
 
 -- ---- a row of the table
 
@@ -99,20 +101,21 @@ pub All : List Check → Type 0
 All [] = Unit {0}
 All (c ∷ cs) = Holds c × All cs
 
-unlinkedLinks : List Bool
-unlinkedLinks = replicate 16 false
+unlinkedLinks : Peers
+unlinkedLinks = record { 0 = 0 }
 
-linkTwo : List Bool
-linkTwo = false ∷ true ∷ replicate 14 false
+-- bit k stands for process k + 1
+linkTwo : Peers
+linkTwo = record { 0 = 2 }
 
-linkThree : List Bool
-linkThree = false ∷ false ∷ true ∷ replicate 13 false
+linkThree : Peers
+linkThree = record { 0 = 4 }
 
-linkTwoThree : List Bool
-linkTwoThree = false ∷ true ∷ true ∷ replicate 13 false
+linkTwoThree : Peers
+linkTwoThree = record { 0 = 6 }
 
 -- process 1 of behaviour 1 with i0 in its registers: its trap flag and links
-plain : Bool → List Bool → Process
+plain : Bool → Peers → Process
 plain f links = rower 1 intZero intZero f links
 
 -- an arrival at process 1 of one signal from j, which process 1 ends as p, with the messages ms
@@ -248,7 +251,7 @@ unfolding sample-steps actionOf decode meaning scheduleOf ofLines readLines firs
 sample-read = (refl, refl)
 
 sample-count : (play started sampleActions .accepted ≡ 5) × (play started sampleActions .refusal ≡ 0)
-unfolding sample started opOf play played step rule ready commit incoming decide at numbered ownerBorn signalWaits pairHasRoom numberFree sound shaped viewSound view behavioursOf code linkSet standing runningSound rowSound receives fits runs runsLive runsOp arrives operand instruction operandInRange inRange hasClauses targetsFree wellPlaced codeSound isNumber fitsInt messages joined without signals oldest pushed popped register withRegister moved advanced linksTo kindsOf
+unfolding sample started opOf play played step rule ready commit incoming decide at numbered ownerBorn signalWaits pairHasRoom numberFree sound shaped viewSound view behavioursOf code setOf has bitsOf standing runningSound rowSound receives fits runs runsLive runsOp arrives operand instruction operandInRange inRange hasClauses targetsFree wellPlaced codeSound isNumber fitsInt messages joined without signals oldest pushed popped register withRegister moved advanced linksTo kindsOf
 sample-count = (refl, refl)
 
 -- what is printed of a play whose count, refusal and listing are known
@@ -268,5 +271,5 @@ unfolding play played
 no-steps n h = rw h
 
 pub ramp : All table
-unfolding All Holds table arrival running refusing plain rower closed left world fives sender spawner unlinkedLinks linkTwo linkThree linkTwoThree sample started ramp-ops opOf play played step rule ready commit incoming decide at numbered ownerBorn signalWaits pairHasRoom numberFree sound shaped viewSound view behavioursOf code linkSet standing runningSound rowSound receives fits runs runsLive runsOp closes arrives exits operand instruction operandInRange inRange hasClauses targetsFree wellPlaced codeSound isNumber fitsInt messages joined without emptied signals oldest pushed popped register withRegister moved advanced trapped linksTo linked unlinked ended gone kindsOf
+unfolding All Holds table arrival running refusing plain rower closed left world fives sender spawner unlinkedLinks linkTwo linkThree linkTwoThree sample started ramp-ops opOf play played step rule ready commit incoming decide at numbered ownerBorn signalWaits pairHasRoom numberFree sound shaped viewSound view behavioursOf code setOf has bitsOf standing runningSound rowSound receives fits runs runsLive runsOp closes arrives exits operand instruction operandInRange inRange hasClauses targetsFree wellPlaced codeSound isNumber fitsInt messages joined without emptied signals oldest pushed popped register withRegister moved advanced trapped linksTo linked unlinked withPeer withoutPeer lowestPeer ended gone kindsOf
 ramp = (no-steps, (sample-program, (refl, (refl, (refl, (refl, (refl, (refl, (refl, (refl, (refl, (refl, (refl, (refl, (refl, (refl, (refl, (refl, (refl, (refl, tt))))))))))))))))))))

@@ -11,19 +11,20 @@ use Rattle.node.specs.declared.Value.the-variants.{Int, Atom}
 use Rattle.node.specs.Mailboxes.{messages, joined, without}
 use Rattle.node.specs.Ops.{kindsOf}
 use Rattle.node.specs.Processes.{register, withRegister, moved, advanced, linksTo}
+use Rattle.node.specs.Sets.{bitsOf, has}
 use Rattle.node.specs.Rows.{signals, oldest, pushed, popped}
 use Rattle.node.specs.Values.{intZero, normal, killed, pid}
 use Rattle.rules.proofs.Sample.{opOf, sample, started}
 use Rattle.rules.specs.Arrive.{arrives}
 use Rattle.rules.specs.Behaviours.{operand, instruction, operandInRange, inRange, hasClauses, targetsFree, wellPlaced, codeSound}
-use Rattle.rules.specs.Nodes.{unborn, live, closing, gone, sound, shaped, viewSound, view, behavioursOf, code, linkSet, standing, runningSound, rowSound}
+use Rattle.rules.specs.Nodes.{unborn, live, closing, gone, sound, shaped, viewSound, view, behavioursOf, code, setOf, standing, runningSound, rowSound}
 use Rattle.rules.specs.Receive.{receives, fits}
 use Rattle.rules.specs.Run.{runs, runsLive, runsOp}
 use Rattle.rules.specs.Steps.{run, arrive, play, played, step, rule, ready, commit, incoming, decide, at, numbered, ownerBorn, signalWaits, pairHasRoom, numberFree}
 use Rattle.rules.specs.Values.{isNumber, fitsInt}
 use Rattle.text.specs.Values.{numberText, valueText}
 use Rattle.text.specs.Writing.{digitsIn, digits, intText, each}
-use Rattle.listing_lines.specs.Lines.{numberLine, valueLine, eachFrom, members, withCommas, linksLine, registerLine, messageLine, mailText, standingText, signalLine, flightLine, pairText}
+use Rattle.listing_lines.specs.Lines.{numberLine, valueLine, eachFrom, members, withCommas, setLine, registerLine, messageLine, mailText, standingText, signalLine, flightLine, pairText}
 use Rattle.listing.specs.Listing.{rowsText, listingText, listingOf}
 
 -- after run=1 three times, arrive=2,1, run=2
@@ -52,7 +53,7 @@ pub sample-listing :
     ++ (116 ∷ 114 ∷ 97 ∷ 112 ∷ 61 ∷ 48 ∷ 10 ∷ [])  -- trap=0
     ++ (108 ∷ 105 ∷ 110 ∷ 107 ∷ 115 ∷ 61 ∷ 10 ∷ [])  -- links=
     ++ (109 ∷ 97 ∷ 105 ∷ 108 ∷ 61 ∷ 48 ∷ 10 ∷ [])  -- mail=0
-unfolding listingOf numberLine valueLine eachFrom members withCommas linksLine registerLine messageLine mailText standingText signalLine flightLine pairText rowsText listingText each valueText numberText intText digits digitsIn started sample opOf play played step rule ready commit incoming decide at numbered ownerBorn signalWaits pairHasRoom numberFree sound shaped viewSound view behavioursOf code linkSet standing runningSound rowSound receives fits runs runsLive runsOp arrives operand instruction operandInRange inRange hasClauses targetsFree wellPlaced codeSound isNumber fitsInt messages joined without signals oldest pushed popped register withRegister moved advanced linksTo kindsOf
+unfolding listingOf numberLine valueLine eachFrom members withCommas setLine registerLine messageLine mailText standingText signalLine flightLine pairText rowsText listingText each valueText numberText intText digits digitsIn started sample opOf play played step rule ready commit incoming decide at numbered ownerBorn signalWaits pairHasRoom numberFree sound shaped viewSound view behavioursOf code setOf has bitsOf standing runningSound rowSound receives fits runs runsLive runsOp arrives operand instruction operandInRange inRange hasClauses targetsFree wellPlaced codeSound isNumber fitsInt messages joined without signals oldest pushed popped register withRegister moved advanced linksTo kindsOf
 sample-listing = refl
 
 -- closing, gone and live processes, a note, a link set with a comma, and signals of every kind
@@ -101,5 +102,5 @@ pub other-listing :
     ++ (115 ∷ 105 ∷ 103 ∷ 110 ∷ 97 ∷ 108 ∷ 61 ∷ 117 ∷ 110 ∷ 108 ∷ 105 ∷ 110 ∷ 107 ∷ 10 ∷ [])  -- signal=unlink
     ++ (102 ∷ 108 ∷ 105 ∷ 103 ∷ 104 ∷ 116 ∷ 61 ∷ 50 ∷ 44 ∷ 49 ∷ 44 ∷ 49 ∷ 10 ∷ [])  -- flight=2,1,1
     ++ (115 ∷ 105 ∷ 103 ∷ 110 ∷ 97 ∷ 108 ∷ 61 ∷ 101 ∷ 120 ∷ 105 ∷ 116 ∷ 44 ∷ 112 ∷ 49 ∷ 44 ∷ 48 ∷ 10 ∷ [])  -- signal=exit,p1,0
-unfolding numberLine valueLine eachFrom members withCommas linksLine registerLine messageLine mailText standingText signalLine flightLine pairText rowsText listingText each valueText numberText intText digits digitsIn
+unfolding numberLine valueLine eachFrom members withCommas setLine registerLine messageLine mailText standingText signalLine flightLine pairText rowsText listingText each valueText numberText intText digits digitsIn
 other-listing = refl

@@ -1,8 +1,8 @@
 -- Laws of sets of processes: a digit read, the set with one more and with one fewer, the lowest. Assumes nothing.
---   members-with members-without   the set with j, and without it, as sixteen answers
---   has-none has-with-other has-without-false has-without-other   who is in them
+--   bits-of-with bits-of-without   the set with j, and without it, as sixteen answers
+--   has-none has-with-other has-without-false   who is in them
 --   lowest-start -here -next -end  the digits read one by one
---   lowest-there lowest-number     the lowest of a set that is not empty is in it, and is a process number
+--   lowest-number                  the lowest of a set that is not empty is a process number
 use mathlib.Core.Bool.{Bool, true, false, cond, false≢true}
 use mathlib.Core.List.{List, [], _∷_}
 use mathlib.Core.Logic.{_≢_}
@@ -16,7 +16,7 @@ use lib.ListN.{length, getD, set, drop, replicate, List·getD-eq-default, drop-o
 use lib.Pow.{shr-shr, shl-exact}
 use lib.Seq.{set-getD, set-out, getD-set-other}
 use Rattle.node.specs.declared.Peers.{Peers}
-use Rattle.node.specs.Sets.{bits, members, noPeers, has, withPeer, withoutPeer, firstFrom, lowestPeer}
+use Rattle.node.specs.Sets.{bits, bitsOf, noPeers, has, withPeer, withoutPeer, firstFrom, lowestPeer}
 
 -- ---- digits
 
@@ -80,11 +80,11 @@ shifted k h = let z : 1 * 2 ^ k ≡ 2 ^ k = omega arith in shl-exact {a = 1} 1 k
 
 module _ (s : Peers) (j : ℕ) where
   pub has-past : 16 ≤ j - 1 → has s j ≡ false
-  unfolding has members
+  unfolding has bitsOf
   has-past h = List·getD-eq-default (bits 16 (s .0)) false {n = j - 1} h
 
   pub has-at : j - 1 < 16 → has s j ≡ eqb (s .0 / 2 ^ (j - 1) % 2) 1
-  unfolding has members
+  unfolding has bitsOf
   has-at h = bit-at 16 (j - 1) (s .0) h
 
   pub with-past : 16 ≤ j - 1 → withPeer s j ≡ s
@@ -92,11 +92,11 @@ module _ (s : Peers) (j : ℕ) where
   with-past h = rw (le-ltb (j - 1) 16 h)
 
   pub with-there : j - 1 < 16 → s .0 / 2 ^ (j - 1) % 2 ≡ 1 → withPeer s j ≡ s
-  unfolding withPeer has members
+  unfolding withPeer has bitsOf
   with-there h e = rw (lt-ltb (j - 1) 16 h, has-at h, eq-eqb (s .0 / 2 ^ (j - 1) % 2) 1 e)
 
   pub with-new : j - 1 < 16 → (s .0 / 2 ^ (j - 1) % 2 ≡ 1 → ⊥) → withPeer s j ≡ record { 0 = s .0 + 2 ^ (j - 1) }
-  unfolding withPeer has members
+  unfolding withPeer has bitsOf
   with-new h e = rw (lt-ltb (j - 1) 16 h, has-at h, ne-eqb (s .0 / 2 ^ (j - 1) % 2) 1 e)
 
   pub without-past : 16 ≤ j - 1 → withoutPeer s j ≡ s
@@ -104,11 +104,11 @@ module _ (s : Peers) (j : ℕ) where
   without-past h = rw (has-past h)
 
   pub without-there : j - 1 < 16 → s .0 / 2 ^ (j - 1) % 2 ≡ 1 → withoutPeer s j ≡ record { 0 = s .0 - 2 ^ (j - 1) }
-  unfolding withoutPeer has members
+  unfolding withoutPeer has bitsOf
   without-there h e = rw (has-at h, eq-eqb (s .0 / 2 ^ (j - 1) % 2) 1 e)
 
   pub without-none : j - 1 < 16 → (s .0 / 2 ^ (j - 1) % 2 ≡ 1 → ⊥) → withoutPeer s j ≡ s
-  unfolding withoutPeer has members
+  unfolding withoutPeer has bitsOf
   without-none h e = rw (has-at h, ne-eqb (s .0 / 2 ^ (j - 1) % 2) 1 e)
 
   pub new-fits : j - 1 < 16 → s .0 < 65536 → (s .0 / 2 ^ (j - 1) % 2 ≡ 1 → ⊥) → s .0 + 2 ^ (j - 1) < 65536
@@ -120,9 +120,9 @@ module _ (s : Peers) (j : ℕ) where
 -- ---- the sets as sixteen answers
 
 module _ (s : Peers) (j : ℕ) where
-  pub members-with : members (withPeer s j) ≡ set (members s) (j - 1) true
-  unfolding withPeer members
-  members-with = by-size (ltb (j - 1) 16) refl
+  pub bits-of-with : bitsOf (withPeer s j) ≡ set (bitsOf s) (j - 1) true
+  unfolding withPeer bitsOf
+  bits-of-with = by-size (ltb (j - 1) 16) refl
     where
       by-digit : j - 1 < 16 → (t : Bool) → getD (bits 16 (s .0)) (j - 1) false ≡ t → bits 16 (cond t (s .0) (s .0 + 2 ^ (j - 1))) ≡ set (bits 16 (s .0)) (j - 1) true
       by-digit h true e = sym (rw (← e) (set-getD (bits 16 (s .0)) (j - 1) false))
@@ -132,9 +132,9 @@ module _ (s : Peers) (j : ℕ) where
       by-size true h = by-digit (ltb-true (j - 1) 16 h) (getD (bits 16 (s .0)) (j - 1) false) refl
       by-size false h = sym (set-out (bits 16 (s .0)) (j - 1) true (ltb-false (j - 1) 16 h))
 
-  pub members-without : members (withoutPeer s j) ≡ set (members s) (j - 1) false
-  unfolding withoutPeer members
-  members-without = go (getD (bits 16 (s .0)) (j - 1) false) refl
+  pub bits-of-without : bitsOf (withoutPeer s j) ≡ set (bitsOf s) (j - 1) false
+  unfolding withoutPeer bitsOf
+  bits-of-without = go (getD (bits 16 (s .0)) (j - 1) false) refl
     where
       inside : getD (bits 16 (s .0)) (j - 1) false ≡ true → (t : Bool) → ltb (j - 1) 16 ≡ t → j - 1 < 16
       inside e true h = ltb-true (j - 1) 16 h
@@ -148,15 +148,11 @@ module _ (s : Peers) (j : ℕ) where
 
   pub has-with-other : (i : ℕ) → i - 1 ≢ j - 1 → has (withPeer s j) i ≡ has s i
   unfolding has
-  has-with-other i h = ap (λ (l : List Bool). getD l (i - 1) false) members-with ∙ getD-set-other (members s) (j - 1) (i - 1) true false h
-
-  pub has-without-other : (i : ℕ) → i - 1 ≢ j - 1 → has (withoutPeer s j) i ≡ has s i
-  unfolding has
-  has-without-other i h = ap (λ (l : List Bool). getD l (i - 1) false) members-without ∙ getD-set-other (members s) (j - 1) (i - 1) false false h
+  has-with-other i h = ap (λ (l : List Bool). getD l (i - 1) false) bits-of-with ∙ getD-set-other (bitsOf s) (j - 1) (i - 1) true false h
 
   pub has-without-false : (i : ℕ) → has s i ≡ false → has (withoutPeer s j) i ≡ false
   unfolding has
-  has-without-false i h = ap (λ (l : List Bool). getD l (i - 1) false) members-without ∙ set-false (members s) (j - 1) (i - 1) h
+  has-without-false i h = ap (λ (l : List Bool). getD l (i - 1) false) bits-of-without ∙ set-false (bitsOf s) (j - 1) (i - 1) h
     where
       set-false : (l : List Bool) (k n : ℕ) → getD l n false ≡ false → getD (set l k false) n false ≡ false
       set-false [] k n e = e
@@ -166,7 +162,7 @@ module _ (s : Peers) (j : ℕ) where
       set-false (x ∷ l) (suc k) (suc n) e = set-false l k n e
 
 pub has-none : (j : ℕ) → has noPeers j ≡ false
-unfolding has members
+unfolding has bitsOf
 has-none j = none-at 16 (j - 1)
   where
     none-at : (n k : ℕ) → getD (replicate n false) k false ≡ false
@@ -201,25 +197,25 @@ bits-length : (n b : ℕ) → length (bits n b) ≡ n
 bits-length zero b = refl
 bits-length (suc n) b = ap suc (bits-length n (b / 2))
 
-pub members-length : (s : Peers) → length (members s) ≡ 16
-unfolding members
-members-length s = bits-length 16 (s .0)
+pub bits-of-length : (s : Peers) → length (bitsOf s) ≡ 16
+unfolding bitsOf
+bits-of-length s = bits-length 16 (s .0)
 
-pub lowest-start : (s : Peers) → lowestPeer s ≡ firstFrom 1 (drop 0 (members s))
+pub lowest-start : (s : Peers) → lowestPeer s ≡ firstFrom 1 (drop 0 (bitsOf s))
 unfolding lowestPeer
 lowest-start s = refl
 
 module _ (s : Peers) (k : ℕ) where
-  pub lowest-here : k < 16 → s .0 / 2 ^ k % 2 ≡ 1 → firstFrom (k + 1) (drop k (members s)) ≡ k + 1
-  unfolding members
+  pub lowest-here : k < 16 → s .0 / 2 ^ k % 2 ≡ 1 → firstFrom (k + 1) (drop k (bitsOf s)) ≡ k + 1
+  unfolding bitsOf
   lowest-here h e = first-here (bits 16 (s .0)) k (rw (bits-length 16 (s .0)) h) (bit-at 16 k (s .0) h ∙ eq-eqb (s .0 / 2 ^ k % 2) 1 e)
 
-  pub lowest-next : k < 16 → (s .0 / 2 ^ k % 2 ≡ 1 → ⊥) → firstFrom (k + 1) (drop k (members s)) ≡ firstFrom (k + 1 + 1) (drop (k + 1) (members s))
-  unfolding members
+  pub lowest-next : k < 16 → (s .0 / 2 ^ k % 2 ≡ 1 → ⊥) → firstFrom (k + 1) (drop k (bitsOf s)) ≡ firstFrom (k + 1 + 1) (drop (k + 1) (bitsOf s))
+  unfolding bitsOf
   lowest-next h e = first-next (bits 16 (s .0)) k (rw (bits-length 16 (s .0)) h) (bit-at 16 k (s .0) h ∙ ne-eqb (s .0 / 2 ^ k % 2) 1 e) ∙ (let x : k + 2 ≡ k + 1 + 1 = omega arith in ap (λ (i : ℕ). firstFrom i (drop (k + 1) (bits 16 (s .0)))) x)
 
-  pub lowest-end : 16 ≤ k → firstFrom (k + 1) (drop k (members s)) ≡ 0
-  unfolding members
+  pub lowest-end : 16 ≤ k → firstFrom (k + 1) (drop k (bitsOf s)) ≡ 0
+  unfolding bitsOf
   lowest-end h = ap (firstFrom (k + 1)) (drop-of-length-le (bits 16 (s .0)) {i = k} (rw (bits-length 16 (s .0)) h))
 
 first-range : (i : ℕ) (l : List Bool) (j : ℕ) → firstFrom i l ≡ suc j → (i ≤ suc j) × (suc j < i + length l)
@@ -227,19 +223,6 @@ first-range i [] j e = absurd (let z : 0 ≡ suc j = e in omega arith)
 first-range i (true ∷ l) j e = (omega arith, omega arith)
 first-range i (false ∷ l) j e = let w = first-range (i + 1) l j e in (omega arith, omega arith)
 
-first-there : (i : ℕ) (l : List Bool) (j : ℕ) → firstFrom i l ≡ suc j → getD l (suc j - i) false ≡ true
-first-there i [] j e = absurd (let z : 0 ≡ suc j = e in omega arith)
-first-there i (true ∷ l) j e = let z : suc j - i ≡ 0 = omega arith in rw z
-first-there i (false ∷ l) j e =
-    let w = first-range (i + 1) l j e in
-    let z : suc j - i ≡ suc (suc j - (i + 1)) = omega arith in
-    rw z (first-there (i + 1) l j e)
-
-module _ (s : Peers) (j : ℕ) (e : lowestPeer s ≡ suc j) where
-  pub lowest-number : suc j ≤ 16
-  unfolding lowestPeer members
-  lowest-number = let w = first-range 1 (bits 16 (s .0)) j e in omega arith
-
-  pub lowest-there : has s (suc j) ≡ true
-  unfolding lowestPeer has
-  lowest-there = first-there 1 (members s) j e
+pub lowest-number : (s : Peers) (j : ℕ) → lowestPeer s ≡ suc j → suc j ≤ 16
+unfolding lowestPeer bitsOf
+lowest-number s j e = let w = first-range 1 (bits 16 (s .0)) j e in omega arith

@@ -1,6 +1,6 @@
 -- Sets of processes (document 01's link set), each held as one number.
 --   bits n b        the first n binary digits of b, the lowest first
---   members s       the set as sixteen answers: whether process k + 1 is in it stands at k
+--   bitsOf s        the set as sixteen answers: whether process k + 1 is in it stands at k
 --   noPeers         the empty set
 --   has s j         process j is in the set
 --   withPeer s j    the set with process j;  withoutPeer s j  the set without it
@@ -17,20 +17,20 @@ abbrev pub bits : ℕ → ℕ → List Bool
 bits zero b = []
 bits (suc n) b = eqb (b % 2) 1 ∷ bits n (b / 2)
 
-unfoldable pub members : Peers → List Bool
-members s = bits 16 (s .0)
+unfoldable pub bitsOf : Peers → List Bool
+bitsOf s = bits 16 (s .0)
 
 abbrev pub noPeers : Peers
 noPeers = record { 0 = 0 }
 
 unfoldable pub has : Peers → ℕ → Bool
-has s j = getD (members s) (j - 1) false
+has s j = getD (bitsOf s) (j - 1) false
 
 unfoldable pub withPeer : Peers → ℕ → Peers
-withPeer s j = record { 0 = cond (ltb (j - 1) 16) (cond (getD (members s) (j - 1) false) (s .0) (s .0 + 2 ^ (j - 1))) (s .0) }
+withPeer s j = record { 0 = cond (ltb (j - 1) 16) (cond (getD (bitsOf s) (j - 1) false) (s .0) (s .0 + 2 ^ (j - 1))) (s .0) }
 
 unfoldable pub withoutPeer : Peers → ℕ → Peers
-withoutPeer s j = record { 0 = cond (getD (members s) (j - 1) false) (s .0 - 2 ^ (j - 1)) (s .0) }
+withoutPeer s j = record { 0 = cond (getD (bitsOf s) (j - 1) false) (s .0 - 2 ^ (j - 1)) (s .0) }
 
 -- the number of the first that is there, where the first of all has number k; 0 where none is
 abbrev pub firstFrom : ℕ → List Bool → ℕ
@@ -38,4 +38,4 @@ firstFrom k [] = 0
 firstFrom k (b ∷ l) = cond b k (firstFrom (k + 1) l)
 
 unfoldable pub lowestPeer : Peers → ℕ
-lowestPeer s = firstFrom 1 (members s)
+lowestPeer s = firstFrom 1 (bitsOf s)

@@ -34,7 +34,7 @@ use Rattle.rules.proofs.Firsts.{set-read}
 use Rattle.rules.proofs.Kept.{of-parts}
 use Rattle.rules.proofs.Places.{fresh-sound}
 use Rattle.rules.proofs.Records.{number-bounds}
-use Rattle.rules.proofs.Shape.{Sized, set-all}
+use Rattle.rules.proofs.Shape.{Sized}
 use Rattle.text.specs.Parts.{linesOf}
 use Rattle.placement.specs.Misplaced.{firstCode}
 use Rattle.placement.proofs.Placed.{misplaced-none}
@@ -107,7 +107,7 @@ module _ (n : Node) (sized : Sized n) (mail : n .mail ≡ replicate 16 emptyMail
 
 blank-sized : Sized blankNode
 unfolding blankNode
-blank-sized = record { lens = refl; ops = refl; processes = refl; links = refl; mail = refl; slots = refl; flight = refl; cells = refl }
+blank-sized = record { lens = refl; ops = refl; processes = refl; mail = refl; slots = refl; flight = refl; cells = refl }
 
 pub blank-sound : Sound blankNode
 unfolding blankNode behavioursOf code instruction operand kindsOf codeSound inRange operandInRange wellPlaced hasClauses targetsFree
@@ -148,7 +148,6 @@ code-sized n code z = record {
   lens = length-set (n .lens) (n .count) (length code) ∙ z .lens;
   ops = length-sets (n .ops) (n .count * 32) code ∙ z .ops;
   processes = z .processes;
-  links = z .links;
   mail = z .mail;
   slots = z .slots;
   flight = z .flight;
@@ -160,7 +159,6 @@ start-sized n s z = record {
   lens = z .lens;
   ops = z .ops;
   processes = length-set (n .processes) (s .process .0 - 1) _ ∙ z .processes;
-  links = set-all noProcess sixteenLinks (s .process .0 - 1) (n .processes) _ refl (z .links);
   mail = z .mail;
   slots = z .slots;
   flight = z .flight;
@@ -172,7 +170,7 @@ each-sized f h n [] z = z
 each-sized f h n (x ∷ xs) z = each-sized f h (f n x) xs (h n x z)
 
 empty-sized : Sized emptyNode
-empty-sized = record { lens = refl; ops = refl; processes = refl; links = refl; mail = refl; slots = refl; flight = refl; cells = refl }
+empty-sized = record { lens = refl; ops = refl; processes = refl; mail = refl; slots = refl; flight = refl; cells = refl }
 
 plan-sized : (p : Plan) → Sized (nodeOf p)
 unfolding nodeOf

@@ -24,8 +24,8 @@ use Rattle.node.specs.declared.Value.{Value}
 use Rattle.node.specs.Lists.{firsts, leave}
 use Rattle.node.specs.Mailboxes.{noMessage, messages, joined, without, emptied}
 use Rattle.node.specs.Processes.{ended, gone}
-use Rattle.node.specs.Sets.{members, has, withPeer, withoutPeer}
-use Rattle.node.proofs.Sets.{members-length, members-with, members-without}
+use Rattle.node.specs.Sets.{bitsOf, has, withPeer, withoutPeer}
+use Rattle.node.proofs.Sets.{bits-of-length, bits-of-with, bits-of-without}
 use Rattle.node.specs.Rows.{noSignal, signals, oldest, pushed, popped}
 use Rattle.node.proofs.Lists.{firsts-join, firsts-leave, firsts-behind, map-append, map-take, map-drop}
 use Rattle.rules.specs.Nodes.{Equal, sound, shaped, viewSound, setOf, standing}
@@ -100,31 +100,31 @@ number-bounds j h = let b = and-eq-true-iff (leb 1 j) (leb j 16) .0 h in (leb-tr
 
 module _ (s : Peers) (j : ℕ) (number : isNumber j ≡ true) where
   -- in both cases j stands as b says, and the others as they did
-  set-at : (b : Bool) → (isNumber j && getD (set (members s) (j - 1) b) (j - 1) false) ≡ b
-  set-at b = let h = number-bounds j number in rw (number, getD-set-same (members s) (j - 1) b false (rw (members-length s) (omega arith)))
+  set-at : (b : Bool) → (isNumber j && getD (set (bitsOf s) (j - 1) b) (j - 1) false) ≡ b
+  set-at b = let h = number-bounds j number in rw (number, getD-set-same (bitsOf s) (j - 1) b false (rw (bits-of-length s) (omega arith)))
 
-  set-else : (b : Bool) (k : ℕ) → (k ≡ j → ⊥) → (isNumber k && getD (set (members s) (j - 1) b) (k - 1) false) ≡ (isNumber k && getD (members s) (k - 1) false)
+  set-else : (b : Bool) (k : ℕ) → (k ≡ j → ⊥) → (isNumber k && getD (set (bitsOf s) (j - 1) b) (k - 1) false) ≡ (isNumber k && getD (bitsOf s) (k - 1) false)
   set-else b k h = go (isNumber k) refl
     where
-      go : (t : Bool) → isNumber k ≡ t → (t && getD (set (members s) (j - 1) b) (k - 1) false) ≡ (t && getD (members s) (k - 1) false)
+      go : (t : Bool) → isNumber k ≡ t → (t && getD (set (bitsOf s) (j - 1) b) (k - 1) false) ≡ (t && getD (bitsOf s) (k - 1) false)
       go false e = refl
-      go true e = let a = number-bounds j number in let c = number-bounds k e in getD-set-other (members s) (j - 1) (k - 1) b false (λ q. h (omega arith))
+      go true e = let a = number-bounds j number in let c = number-bounds k e in getD-set-other (bitsOf s) (j - 1) (k - 1) b false (λ q. h (omega arith))
 
   -- j joins the set
   pub set-with : (k : ℕ) → setOf (withPeer s j) k ≡ (eqb k j || setOf s k)
   unfolding setOf has
-  set-with k = rw (members-with s j) (go (ℕ-discrete k j))
+  set-with k = rw (bits-of-with s j) (go (ℕ-discrete k j))
     where
-      go : Dec (k ≡ j) → (isNumber k && getD (set (members s) (j - 1) true) (k - 1) false) ≡ (eqb k j || (isNumber k && getD (members s) (k - 1) false))
+      go : Dec (k ≡ j) → (isNumber k && getD (set (bitsOf s) (j - 1) true) (k - 1) false) ≡ (eqb k j || (isNumber k && getD (bitsOf s) (k - 1) false))
       go (yes e) = rw (e, eq-eqb j j refl) (set-at true)
       go (no h) = rw (ne-eqb k j h) (set-else true k h)
 
   -- j leaves the set
   pub set-without : (k : ℕ) → setOf (withoutPeer s j) k ≡ (not (eqb k j) && setOf s k)
   unfolding setOf has
-  set-without k = rw (members-without s j) (go (ℕ-discrete k j))
+  set-without k = rw (bits-of-without s j) (go (ℕ-discrete k j))
     where
-      go : Dec (k ≡ j) → (isNumber k && getD (set (members s) (j - 1) false) (k - 1) false) ≡ (not (eqb k j) && (isNumber k && getD (members s) (k - 1) false))
+      go : Dec (k ≡ j) → (isNumber k && getD (set (bitsOf s) (j - 1) false) (k - 1) false) ≡ (not (eqb k j) && (isNumber k && getD (bitsOf s) (k - 1) false))
       go (yes e) = rw (e, eq-eqb j j refl) (set-at false)
       go (no h) = rw (ne-eqb k j h) (set-else false k h)
 

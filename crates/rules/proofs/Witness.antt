@@ -12,7 +12,7 @@ use Rattle.node.specs.Mailboxes.{messages, joined, without, emptied}
 use Rattle.node.specs.Ops.{kindsOf}
 use Rattle.node.specs.Processes.{register, withRegister, moved, advanced, trapped, linksTo, linked, unlinked, ended, gone}
 use Rattle.node.specs.Rows.{signals, oldest, pushed, popped}
-use Rattle.node.specs.Sets.{noPeers, members, has, withPeer, withoutPeer, lowestPeer}
+use Rattle.node.specs.Sets.{noPeers, bitsOf, has, withPeer, withoutPeer, lowestPeer}
 use Rattle.node.specs.Values.{intZero, normal, pid}
 use Rattle.rules.specs.Arrive.{arrives, exits}
 use Rattle.rules.specs.Behaviours.{operand, instruction, operandInRange, inRange, hasClauses, targetsFree, wellPlaced, codeSound}
@@ -26,7 +26,7 @@ use Rattle.rules.specs.Values.{isNumber, fitsInt}
 use Rattle.rules.proofs.Sample.{opOf, int, sample, started}
 
 pub started-sound : Sound started
-unfolding started sample opOf sound shaped viewSound view behavioursOf code setOf has members standing runningSound rowSound operand instruction operandInRange inRange hasClauses targetsFree wellPlaced codeSound isNumber fitsInt messages signals linksTo kindsOf
+unfolding started sample opOf sound shaped viewSound view behavioursOf code setOf has bitsOf standing runningSound rowSound operand instruction operandInRange inRange hasClauses targetsFree wellPlaced codeSound isNumber fitsInt messages signals linksTo kindsOf
 started-sound = refl
 
 -- two orders of one set of steps: process 1 ends before or after process 2 receives
@@ -49,27 +49,27 @@ finish : Node
 finish = sample (stands 1 3 (pid 2) (int 12)) (stands 2 2 (int 12) intZero)
 
 early-end : after started early ≡ finish
-unfolding early late mixed finish stands after accepted callNode callSteps owned started sample opOf play played step rule ready commit incoming decide at numbered ownerBorn signalWaits pairHasRoom numberFree sound shaped viewSound view behavioursOf code setOf has members standing runningSound rowSound receives fits runs runsLive runsOp closes arrives exits operand instruction operandInRange inRange hasClauses targetsFree wellPlaced codeSound isNumber fitsInt messages joined without emptied signals oldest pushed popped register withRegister moved advanced trapped linksTo linked unlinked withPeer withoutPeer lowestPeer ended gone kindsOf
+unfolding early late mixed finish stands after accepted callNode callSteps owned started sample opOf play played step rule ready commit incoming decide at numbered ownerBorn signalWaits pairHasRoom numberFree sound shaped viewSound view behavioursOf code setOf has bitsOf standing runningSound rowSound receives fits runs runsLive runsOp closes arrives exits operand instruction operandInRange inRange hasClauses targetsFree wellPlaced codeSound isNumber fitsInt messages joined without emptied signals oldest pushed popped register withRegister moved advanced trapped linksTo linked unlinked withPeer withoutPeer lowestPeer ended gone kindsOf
 early-end = refl
 
 late-end : after started late ≡ finish
-unfolding early late mixed finish stands after accepted callNode callSteps owned started sample opOf play played step rule ready commit incoming decide at numbered ownerBorn signalWaits pairHasRoom numberFree sound shaped viewSound view behavioursOf code setOf has members standing runningSound rowSound receives fits runs runsLive runsOp closes arrives exits operand instruction operandInRange inRange hasClauses targetsFree wellPlaced codeSound isNumber fitsInt messages joined without emptied signals oldest pushed popped register withRegister moved advanced trapped linksTo linked unlinked withPeer withoutPeer lowestPeer ended gone kindsOf
+unfolding early late mixed finish stands after accepted callNode callSteps owned started sample opOf play played step rule ready commit incoming decide at numbered ownerBorn signalWaits pairHasRoom numberFree sound shaped viewSound view behavioursOf code setOf has bitsOf standing runningSound rowSound receives fits runs runsLive runsOp closes arrives exits operand instruction operandInRange inRange hasClauses targetsFree wellPlaced codeSound isNumber fitsInt messages joined without emptied signals oldest pushed popped register withRegister moved advanced trapped linksTo linked unlinked withPeer withoutPeer lowestPeer ended gone kindsOf
 late-end = refl
 
 mixed-end : after started mixed ≡ finish
-unfolding early late mixed finish stands after accepted callNode callSteps owned started sample opOf play played step rule ready commit incoming decide at numbered ownerBorn signalWaits pairHasRoom numberFree sound shaped viewSound view behavioursOf code setOf has members standing runningSound rowSound receives fits runs runsLive runsOp closes arrives exits operand instruction operandInRange inRange hasClauses targetsFree wellPlaced codeSound isNumber fitsInt messages joined without emptied signals oldest pushed popped register withRegister moved advanced trapped linksTo linked unlinked withPeer withoutPeer lowestPeer ended gone kindsOf
+unfolding early late mixed finish stands after accepted callNode callSteps owned started sample opOf play played step rule ready commit incoming decide at numbered ownerBorn signalWaits pairHasRoom numberFree sound shaped viewSound view behavioursOf code setOf has bitsOf standing runningSound rowSound receives fits runs runsLive runsOp closes arrives exits operand instruction operandInRange inRange hasClauses targetsFree wellPlaced codeSound isNumber fitsInt messages joined without emptied signals oldest pushed popped register withRegister moved advanced trapped linksTo linked unlinked withPeer withoutPeer lowestPeer ended gone kindsOf
 mixed-end = refl
 
 pub early-steps : accepted started early ≡ run 1 ∷ run 1 ∷ run 1 ∷ run 1 ∷ arrive 2 1 ∷ run 2 ∷ run 2 ∷ []
-unfolding early late mixed finish stands after accepted callNode callSteps owned started sample opOf play played step rule ready commit incoming decide at numbered ownerBorn signalWaits pairHasRoom numberFree sound shaped viewSound view behavioursOf code setOf has members standing runningSound rowSound receives fits runs runsLive runsOp closes arrives exits operand instruction operandInRange inRange hasClauses targetsFree wellPlaced codeSound isNumber fitsInt messages joined without emptied signals oldest pushed popped register withRegister moved advanced trapped linksTo linked unlinked withPeer withoutPeer lowestPeer ended gone kindsOf
+unfolding early late mixed finish stands after accepted callNode callSteps owned started sample opOf play played step rule ready commit incoming decide at numbered ownerBorn signalWaits pairHasRoom numberFree sound shaped viewSound view behavioursOf code setOf has bitsOf standing runningSound rowSound receives fits runs runsLive runsOp closes arrives exits operand instruction operandInRange inRange hasClauses targetsFree wellPlaced codeSound isNumber fitsInt messages joined without emptied signals oldest pushed popped register withRegister moved advanced trapped linksTo linked unlinked withPeer withoutPeer lowestPeer ended gone kindsOf
 early-steps = refl
 
 pub late-steps : accepted started late ≡ run 1 ∷ run 1 ∷ run 1 ∷ arrive 2 1 ∷ run 2 ∷ run 2 ∷ run 1 ∷ []
-unfolding early late mixed finish stands after accepted callNode callSteps owned started sample opOf play played step rule ready commit incoming decide at numbered ownerBorn signalWaits pairHasRoom numberFree sound shaped viewSound view behavioursOf code setOf has members standing runningSound rowSound receives fits runs runsLive runsOp closes arrives exits operand instruction operandInRange inRange hasClauses targetsFree wellPlaced codeSound isNumber fitsInt messages joined without emptied signals oldest pushed popped register withRegister moved advanced trapped linksTo linked unlinked withPeer withoutPeer lowestPeer ended gone kindsOf
+unfolding early late mixed finish stands after accepted callNode callSteps owned started sample opOf play played step rule ready commit incoming decide at numbered ownerBorn signalWaits pairHasRoom numberFree sound shaped viewSound view behavioursOf code setOf has bitsOf standing runningSound rowSound receives fits runs runsLive runsOp closes arrives exits operand instruction operandInRange inRange hasClauses targetsFree wellPlaced codeSound isNumber fitsInt messages joined without emptied signals oldest pushed popped register withRegister moved advanced trapped linksTo linked unlinked withPeer withoutPeer lowestPeer ended gone kindsOf
 late-steps = refl
 
 pub mixed-steps : accepted started mixed ≡ run 1 ∷ run 1 ∷ run 1 ∷ run 1 ∷ arrive 2 1 ∷ run 2 ∷ run 2 ∷ []
-unfolding early late mixed finish stands after accepted callNode callSteps owned started sample opOf play played step rule ready commit incoming decide at numbered ownerBorn signalWaits pairHasRoom numberFree sound shaped viewSound view behavioursOf code setOf has members standing runningSound rowSound receives fits runs runsLive runsOp closes arrives exits operand instruction operandInRange inRange hasClauses targetsFree wellPlaced codeSound isNumber fitsInt messages joined without emptied signals oldest pushed popped register withRegister moved advanced trapped linksTo linked unlinked withPeer withoutPeer lowestPeer ended gone kindsOf
+unfolding early late mixed finish stands after accepted callNode callSteps owned started sample opOf play played step rule ready commit incoming decide at numbered ownerBorn signalWaits pairHasRoom numberFree sound shaped viewSound view behavioursOf code setOf has bitsOf standing runningSound rowSound receives fits runs runsLive runsOp closes arrives exits operand instruction operandInRange inRange hasClauses targetsFree wellPlaced codeSound isNumber fitsInt messages joined without emptied signals oldest pushed popped register withRegister moved advanced trapped linksTo linked unlinked withPeer withoutPeer lowestPeer ended gone kindsOf
 mixed-steps = refl
 
 -- different orders, equal ends

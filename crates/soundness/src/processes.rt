@@ -3,10 +3,11 @@ ghost use mathlib.Core.Path.{_≡_};
 ghost use lib.Dec.{eqb};
 ghost use Rattle.behaviours.specs.Codes.{codesIn};
 ghost use Rattle.node.specs.Lists.{allFrom};
-ghost use Rattle.rules.specs.Nodes.{linkSet, running, standing, standingSound};
+ghost use Rattle.rules.specs.Nodes.{running, setOf, standing, standingSound};
 ghost use Rattle.soundness.specs.Parts.{lengthIn, opPlace, runningTold, standingTold, standingsIn};
 use node::Mailbox;
 use node::Op;
+use node::Peers;
 use node::Process;
 use node::ProcessNumber;
 use node::Stage;
@@ -79,6 +80,7 @@ pub fn process_sound(
 ) -> bool
     ensures { λ r. ⌜ r ≡ standingTold count (lengthIn count lens (p .behaviour .0)) (eqb there 11) (i .0) (standing p m) ⌝ }
 {
+    let links = p.links;
     let stage = p.stage;
     match stage {
         Stage::Unborn => true,
@@ -86,14 +88,14 @@ pub fn process_sound(
             if !running_sound(p, m, count, lens, there) {
                 return false;
             }
-            !in_links(p, i)
+            !in_set(links, i)
         }
         Stage::Closing => {
             let reason = p.reason;
             if !behaviours::value_sound(reason) {
                 return false;
             }
-            !in_links(p, i)
+            !in_set(links, i)
         }
         Stage::Gone => true,
     }
@@ -119,12 +121,13 @@ pub fn running_sound(p: Process, m: Mailbox, count: u8, lens: [u8; 8], there: u8
     super::values::mailbox_sound(m)
 }
 
-pub fn in_links(p: Process, j: ProcessNumber) -> bool
-    ensures { λ r. ⌜ r ≡ linkSet p (j .0) ⌝ }
+// Whether process j is in a set.
+pub fn in_set(set: Peers, j: ProcessNumber) -> bool
+    ensures { λ r. ⌜ r ≡ setOf set (j .0) ⌝ }
 {
     let number = j.0;
     if !behaviours::is_number(number) {
         return false;
     }
-    p.links_to(j)
+    set.has(j)
 }

@@ -4,13 +4,13 @@ use mathlib.Core.Path.{_≡_, refl, sym, _∙_}
 use Prim.Native.Nat.{_+_, _-_, _≤_}
 use native.Mathlib.Omega.{arith}
 use lib.ListN.{drop}
-use Rattle.node.specs.Sets.{members, firstFrom, lowestPeer}
+use Rattle.node.specs.Sets.{bitsOf, firstFrom, lowestPeer}
 use Rattle.node.proofs.Sets.{lowest-start, lowest-here, lowest-next, lowest-end}
 use Rattle.node.proofs.Peers.lowest.Statement.{statement}
 use Rattle.node.proofs.Peers.lowest.Tie as tie
 
 abbrev Inv-loop : tie.InvT-loop
-Inv-loop self k₀ k = (k ≤ 16) × (lowestPeer self ≡ firstFrom (k + 1) (drop k (members self)))
+Inv-loop self k₀ k = (k ≤ 16) × (lowestPeer self ≡ firstFrom (k + 1) (drop k (bitsOf self)))
 
 abbrev μ-loop : tie.MeasureT-loop
 μ-loop self k₀ k = 16 - k

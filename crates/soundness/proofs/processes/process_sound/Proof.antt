@@ -20,11 +20,11 @@ running-sound-requires c κs = search needs
 
 returns : tie.Need-returns
 returns c =
-    let a = c .before .before .before .before .args in
+    let a = c .before .before .before .before .before .args in
     told-in (a .count) (lengthIn (a .count) (a .lens) (a .p .behaviour .0)) (eqb (a .there) 11) (a .i .0) (a .p) (a .m) (c .before .before .enum-told2 .given .1) (rw (failed (c .before .running-sound .ensures) (c .if1 .taken)))
 
-in-links-requires : tie.Need-in-links-requires
-in-links-requires c κs = search needs
+in-set-requires : tie.Need-in-set-requires
+in-set-requires c κs = search needs
 
 enum-told-3 : tie.Need-enum-told-3
 enum-told-3 c = search needs
@@ -34,33 +34,33 @@ value-sound-requires c κs = search needs
 
 returns-2 : tie.Need-returns-2
 returns-2 c =
-    let a = c .before .before .before .before .args in
+    let a = c .before .before .before .before .before .args in
     told-in (a .count) (lengthIn (a .count) (a .lens) (a .p .behaviour .0)) (eqb (a .there) 11) (a .i .0) (a .p) (a .m) (c .before .before .enum-told3 .given .1) (rw (failed (c .before .value-sound .ensures) (c .if2 .taken)))
 
-in-links-requires-2 : tie.Need-in-links-requires-2
-in-links-requires-2 c κs = search needs
+in-set-requires-2 : tie.Need-in-set-requires-2
+in-set-requires-2 c κs = search needs
 
 enum-told-4 : tie.Need-enum-told-4
 enum-told-4 c = search needs
 
 returns-3 : tie.Need-returns-3
 returns-3 c =
-    let a = c .before .before .args in
+    let a = c .before .before .before .args in
     told-in (a .count) (lengthIn (a .count) (a .lens) (a .p .behaviour .0)) (eqb (a .there) 11) (a .i .0) (a .p) (a .m) (c .enum-told .given .1) refl
 
 returns-4 : tie.Need-returns-4
 returns-4 c =
-    let a = c .before .before .before .before .before .args in
-    told-in (a .count) (lengthIn (a .count) (a .lens) (a .p .behaviour .0)) (eqb (a .there) 11) (a .i .0) (a .p) (a .m) (c .before .before .before .enum-told2 .given .1) (rw (passed (c .before .before .running-sound .ensures) (c .before .if1 .left)) (ap not (c .in-links .ensures)))
+    let a = c .before .before .before .before .before .before .args in
+    told-in (a .count) (lengthIn (a .count) (a .lens) (a .p .behaviour .0)) (eqb (a .there) 11) (a .i .0) (a .p) (a .m) (c .before .before .before .enum-told2 .given .1) (rw (passed (c .before .before .running-sound .ensures) (c .before .if1 .left)) (ap not (c .in-set .ensures)))
 
 returns-5 : tie.Need-returns-5
 returns-5 c =
-    let a = c .before .before .before .before .before .args in
-    told-in (a .count) (lengthIn (a .count) (a .lens) (a .p .behaviour .0)) (eqb (a .there) 11) (a .i .0) (a .p) (a .m) (c .before .before .before .enum-told3 .given .1) (rw (passed (c .before .before .value-sound .ensures) (c .before .if2 .left)) (ap not (c .in-links2 .ensures)))
+    let a = c .before .before .before .before .before .before .args in
+    told-in (a .count) (lengthIn (a .count) (a .lens) (a .p .behaviour .0)) (eqb (a .there) 11) (a .i .0) (a .p) (a .m) (c .before .before .before .enum-told3 .given .1) (rw (passed (c .before .before .value-sound .ensures) (c .before .if2 .left)) (ap not (c .in-set2 .ensures)))
 
 returns-6 : tie.Need-returns-6
 returns-6 c =
-    let a = c .before .before .args in
+    let a = c .before .before .before .args in
     told-in (a .count) (lengthIn (a .count) (a .lens) (a .p .behaviour .0)) (eqb (a .there) 11) (a .i .0) (a .p) (a .m) (c .enum-told4 .given .1) refl
 
 pub process-sound-spec : {M : Type 1} → statement M
@@ -71,11 +71,11 @@ process-sound-spec =
     enum-told-2
     running-sound-requires
     returns
-    in-links-requires
+    in-set-requires
     enum-told-3
     value-sound-requires
     returns-2
-    in-links-requires-2
+    in-set-requires-2
     enum-told-4
     returns-3
     returns-4
