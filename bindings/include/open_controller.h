@@ -8,7 +8,7 @@
 /* Told where `out` is shorter than what is to be written (refusal 30); `out` is then unchanged. */
 #define OPEN_CONTROLLER_SHORT SIZE_MAX
 
-/* Enough for every answer: the listing of a sound node has at most 39,952 bytes, and two short lines stand before it. */
+/* Enough for every answer, whatever the texts are (theorem program-short). */
 #define OPEN_CONTROLLER_OUTPUT 40960
 
 /*

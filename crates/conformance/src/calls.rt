@@ -37,7 +37,7 @@ start=1,1
 }
 
 // Process 1 counts its turns in r0.
-fn counting() -> Node {
+pub(crate) fn counting() -> Node {
     show::reached(
         b"plan=1
 behaviours=1

@@ -14,6 +14,8 @@ pub(crate) fn all() {
     clause_first();
     middle();
     exact();
+    exact_atom();
+    exact_pid();
     note_taken();
     note_over();
     waits();
@@ -558,6 +560,62 @@ run=1
 run=1
 run=1
 arrive=1,1
+arrive=1,1
+run=1
+",
+    );
+}
+
+// The exact value p5 passes a5 over.
+fn exact_atom() {
+    case(
+        b"25 p5 and a message a5",
+        b"plan=1
+behaviours=1
+code=9
+op=self,0
+op=set,1,a5
+op=send,0,1
+op=set,1,p5
+op=send,0,1
+op=recv,1
+op=clause,p5,2,3,7
+op=recv,1
+op=clause,p5,2,3,9
+starts=1
+start=1,1
+",
+        b"run=1
+run=1
+run=1
+run=1
+run=1
+arrive=1,1
+arrive=1,1
+run=1
+run=1
+",
+    );
+}
+
+// And a5 fits no p5.
+fn exact_pid() {
+    case(
+        b"25 a5 and a message p5",
+        b"plan=1
+behaviours=1
+code=5
+op=self,0
+op=set,1,p5
+op=send,0,1
+op=recv,1
+op=clause,a5,2,3,5
+starts=1
+start=1,1
+",
+        b"run=1
+run=1
+run=1
 arrive=1,1
 run=1
 ",

@@ -16,8 +16,10 @@ pub(crate) fn all() {
     less();
     less_atom();
     same();
+    same_atom();
     moves();
     no_process();
+    no_process_full();
     spawned();
     stopped();
     end();
@@ -333,6 +335,31 @@ run=1
     );
 }
 
+// An atom is no process number.
+fn same_atom() {
+    case(
+        b"same of a5 and p5",
+        b"plan=1
+behaviours=1
+code=6
+op=set,0,a5
+op=same,0,p5,5
+op=set,0,p5
+op=same,0,a5,5
+op=same,0,p5,6
+op=set,3,i9
+starts=1
+start=1,1
+",
+        b"run=1
+run=1
+run=1
+run=1
+run=1
+",
+    );
+}
+
 // Set, copy, self, trap and jump.
 fn moves() {
     case(
@@ -383,6 +410,82 @@ start=4,4
         b"run=1
 run=2
 run=3
+run=4
+",
+    );
+}
+
+// The pair to process 9 is full, and the register holds i9 or a9: a3 is looked at before 26.
+fn no_process_full() {
+    case(
+        b"no process number, pair full",
+        b"plan=1
+behaviours=4
+code=7
+op=set,0,p9
+op=send,0,1
+op=send,0,1
+op=send,0,1
+op=send,0,1
+op=set,0,i9
+op=send,0,0
+code=7
+op=set,0,p9
+op=send,0,1
+op=send,0,1
+op=send,0,1
+op=send,0,1
+op=set,0,a9
+op=exit,0,0
+code=7
+op=set,0,p9
+op=send,0,1
+op=send,0,1
+op=send,0,1
+op=send,0,1
+op=set,0,i9
+op=link,0
+code=7
+op=set,0,p9
+op=send,0,1
+op=send,0,1
+op=send,0,1
+op=send,0,1
+op=set,0,a9
+op=unlink,0
+starts=4
+start=1,1
+start=2,2
+start=3,3
+start=4,4
+",
+        b"run=1
+run=1
+run=1
+run=1
+run=1
+run=1
+run=1
+run=2
+run=2
+run=2
+run=2
+run=2
+run=2
+run=2
+run=3
+run=3
+run=3
+run=3
+run=3
+run=3
+run=3
+run=4
+run=4
+run=4
+run=4
+run=4
+run=4
 run=4
 ",
     );

@@ -51,7 +51,7 @@ fn listed_in(n: Node, out: &mut [u8]) {
 }
 
 // The first bytes of a buffer; nothing where it has not so many.
-fn write_first(out: &[u8], length: usize) {
+pub(crate) fn write_first(out: &[u8], length: usize) {
     if length <= out.len() {
         io::write_all(1, &out[..length]);
     }

@@ -25,7 +25,7 @@ pub(crate) fn all() {
 }
 
 // One live process, at a recv with one clause; its mailbox is empty, so that its run is refused with 25.
-fn started() -> Node {
+pub(crate) fn started() -> Node {
     show::reached(
         b"plan=1
 behaviours=1
@@ -41,7 +41,7 @@ start=1,1
 }
 
 // What each call says of a node.
-fn refused(name: &[u8], n: Node) {
+pub(crate) fn refused(name: &[u8], n: Node) {
     show::title(name);
     play_run(n);
     step_run(n);
@@ -50,7 +50,7 @@ fn refused(name: &[u8], n: Node) {
 }
 
 // A play of `run 1`.
-fn play_run(n: Node) {
+pub(crate) fn play_run(n: Node) {
     let numbers = [256u32];
     let r = engine::play(n, &numbers);
     show::two(b"play=", r.accepted as u64, r.refusal as u64);
@@ -89,13 +89,13 @@ fn behaviours() {
     refused(b"31 a behaviour of 33 ops", with_length(33));
 }
 
-fn with_count(count: u8) -> Node {
+pub(crate) fn with_count(count: u8) -> Node {
     let mut n = started();
     n.count = count;
     n
 }
 
-fn with_length(length: u8) -> Node {
+pub(crate) fn with_length(length: u8) -> Node {
     let mut n = started();
     n.lens[0] = length;
     n
@@ -133,13 +133,13 @@ fn places() {
     refused(b"31 a behaviour number past the count", with_behaviour(2));
 }
 
-fn with_place(place: u8) -> Node {
+pub(crate) fn with_place(place: u8) -> Node {
     let mut n = started();
     n.processes[0].place = place;
     n
 }
 
-fn with_behaviour(behaviour: u8) -> Node {
+pub(crate) fn with_behaviour(behaviour: u8) -> Node {
     let mut n = started();
     let mut p = n.processes[0];
     let b = BehaviourNumber(behaviour);
@@ -163,12 +163,12 @@ fn with_link() -> Node {
     with_process(first_process().linked(ProcessNumber(1)))
 }
 
-fn first_process() -> Process {
+pub(crate) fn first_process() -> Process {
     let n = started();
     n.processes[0]
 }
 
-fn with_process(p: Process) -> Node {
+pub(crate) fn with_process(p: Process) -> Node {
     let mut n = started();
     n.processes[0] = p;
     n
@@ -193,7 +193,7 @@ fn with_mail() -> Node {
     n
 }
 
-fn with_message(m: Message) -> Node {
+pub(crate) fn with_message(m: Message) -> Node {
     let mut n = started();
     let mail = n.mail[0];
     let more = mail.joined(m);
@@ -226,7 +226,7 @@ fn with_flight() -> Node {
 }
 
 // A signal from process 1 to itself.
-fn with_signal(s: Signal) -> Node {
+pub(crate) fn with_signal(s: Signal) -> Node {
     let mut n = started();
     let row = n.flight[0];
     let more = row.pushed(s);
@@ -253,6 +253,8 @@ fn first() {
     let bad = [0u32];
     let r = engine::play(n, &bad);
     show::two(b"play=", r.accepted as u64, r.refusal as u64);
+    let s = steps::play_lent(n, &bad);
+    show::two(b"lent=", s.accepted as u64, s.refusal as u64);
     first_long(n);
 }
 
@@ -260,6 +262,8 @@ fn first_long(n: Node) {
     let long = [256u32; 4097];
     let r = engine::play(n, &long);
     show::two(b"play=", r.accepted as u64, r.refusal as u64);
+    let s = steps::play_lent(n, &long);
+    show::two(b"lent=", s.accepted as u64, s.refusal as u64);
 }
 
 // What a node may have in flight: its run is refused by 25, not by 31.

@@ -12,7 +12,6 @@ use Rattle.listing.proofs.Laws.{told-fits}
 use Rattle.listing.proofs.Listings.{listing-short}
 use Rattle.listing.specs.declared.Listed.{Listed}
 use Rattle.listing.specs.Answers.{told, shown}
-use Rattle.listing.specs.Listing.{listingOf}
 use Rattle.listing_lines.proofs.Longest.{Within, _⊕_, exactly, loosely, digits-within, numberLine-within}
 use Rattle.node.specs.declared.Node.{Node}
 use Rattle.plan.proofs.Refusals.{load-told}

@@ -106,7 +106,8 @@ start-read c last l {s} e =
     let a = answered-done (x .refusal) x s (w .1) in
     let kept = start-kept c last (w .0) in
     subst (λ (y : Start). So (startKept c y)) (a .1)
-    (both (both (le-leb 1 (x .process .0) (kept .first (a .0))) (le-leb (x .process .0) 16 (kept .process))) (both (le-leb 1 (x .behaviour .0) (kept .least (a .0))) (le-leb (x .behaviour .0) c (kept .most (a .0)))))
+    (both (both (le-leb 1 (x .process .0) (kept .first (a .0))) (le-leb (x .process .0) 16 (kept .process)))
+    (both (le-leb 1 (x .behaviour .0) (kept .least (a .0))) (le-leb (x .behaviour .0) c (kept .most (a .0)))))
 
 code-read : (c : ℕ) (l : Left) {code : List Op} {k : Left} → codeLines c l ≡ good code k → So (codeKept c code)
 unfolding codeLines

@@ -5,8 +5,8 @@
 --   load-told      so for every load
 use mathlib.Core.Bool.{Bool, true, false, So, _&&_, cond}
 use mathlib.Core.List.{List, [], _∷_, map}
-use mathlib.Core.Path.{_≡_, refl, ap, _∙_}
-use Prim.Native.Nat.{ℕ, zero, suc, _+_, _*_, _≤_}
+use mathlib.Core.Path.{_≡_, refl}
+use Prim.Native.Nat.{ℕ, zero, suc, _+_, _≤_}
 use native.Mathlib.Omega.{arith}
 use borrow.Author.Tests.{ltb-false}
 use lib.Dec.{eqb, leb, ltb}
@@ -17,13 +17,11 @@ use Rattle.rules.proofs.All.{both, parts}
 use Rattle.rules.proofs.Told.{Told}
 use Rattle.rules.specs.Answers.{Answer, refused, done}
 use Rattle.rules.specs.Behaviours.{Instruction, inRange, instruction}
-use Rattle.rules.specs.Nodes.{behavioursOf}
 use Rattle.text.proofs.Parts.{lines-few}
 use Rattle.text.specs.Parts.{Lines, linesOf}
 use Rattle.placement.proofs.Placed.{misplaced-most}
 use Rattle.placement.specs.Misplaced.{firstCode}
 use Rattle.plan_line.proofs.Refusals.{Low, header-told, count-told, op-told, start-told}
-use Rattle.plan_line.specs.declared.Start.{Start}
 use Rattle.plan_line.specs.Lines.{behavioursKey, codeKey, startsKey, headerLine, countLine, opLine, startLine}
 use Rattle.plan.specs.declared.Loaded.{Loaded}
 use Rattle.plan.specs.Plans.{Plan, tooLong, illPlaced, beforeFirst, lastFrom, more, codeLines, startMore, startLines, planLines, misplaced, nodeOf, refusedLoad, checked, loadedFrom, loadOf}
@@ -91,7 +89,7 @@ module _ (m : ℕ) where
   starts-bounded c l h =
       then-bounded m (onLine (countLine startsKey 1 16) l) _ (line-bounded m (countLine startsKey 1 16) (count-told startsKey 1 16) l h)
       (λ n k e. times-bounded m n (startMore c)
-      (λ starts. more-bounded m (onLine (startLine c (lastFrom beforeFirst starts))) (line-bounded m (startLine c (lastFrom beforeFirst starts)) (start-told c (lastFrom beforeFirst starts))) starts) [] k e)
+      (λ starts. let last = lastFrom beforeFirst starts in more-bounded m (onLine (startLine c last)) (line-bounded m (startLine c last) (start-told c last)) starts) [] k e)
 
   pub plan-bounded : (l : Left) → past l ≤ m → Bounded m (planLines l)
   unfolding planLines
@@ -122,22 +120,22 @@ misplaced-low p k =
 
 -- ---- a load
 
-abbrev Told-low : Loaded → Type 0
-Told-low r = (r .number ≤ illPlaced) × (r .line ≤ 16385)
+abbrev LoadLow : Loaded → Type 0
+LoadLow r = (r .number ≤ illPlaced) × (r .line ≤ 16385)
 
-refused-low : (k n : ℕ) → k ≤ illPlaced → n ≤ 16385 → Told-low (refusedLoad k n)
+refused-low : (k n : ℕ) → k ≤ illPlaced → n ≤ 16385 → LoadLow (refusedLoad k n)
 unfolding refusedLoad
 refused-low k n h g = (h, g)
 
-checked-low : (p : Plan) → PlanKept p → Told-low (checked p)
+checked-low : (p : Plan) → PlanKept p → LoadLow (checked p)
 unfolding checked
 checked-low p k = go (eqb (misplaced (nodeOf p)) 0)
   where
-    go : (t : Bool) → Told-low (cond t (record { number = 0; line = 0; node = nodeOf p }) (refusedLoad illPlaced (misplaced (nodeOf p))))
+    go : (t : Bool) → LoadLow (cond t (record { number = 0; line = 0; node = nodeOf p }) (refusedLoad illPlaced (misplaced (nodeOf p))))
     go true = (omega arith, omega arith)
     go false = refused-low illPlaced (misplaced (nodeOf p)) (omega arith) (misplaced-low p k)
 
-read-low : (l : Left) (r : Read Plan) → planLines l ≡ r → Bounded 16385 r → Told-low (loadedFrom r)
+read-low : (l : Left) (r : Read Plan) → planLines l ≡ r → Bounded 16385 r → LoadLow (loadedFrom r)
 read-low l (bad k n) e h = refused-low k n (h .0) (h .1)
 read-low l (good p rest) e h = checked-low p (plan-kept l e)
 
@@ -148,6 +146,6 @@ load-told text = go (ltb 16384 (length text)) refl
     all : Left
     all = record { text = linesOf text; first = 1 }
 
-    go : (b : Bool) → ltb 16384 (length text) ≡ b → Told-low (cond b (refusedLoad tooLong 0) (loadedFrom (planLines (record { text = linesOf text; first = 1 }))))
+    go : (b : Bool) → ltb 16384 (length text) ≡ b → LoadLow (cond b (refusedLoad tooLong 0) (loadedFrom (planLines (record { text = linesOf text; first = 1 }))))
     go true e = refused-low tooLong 0 (omega arith) (omega arith)
     go false e = read-low all (planLines all) refl (plan-bounded 16385 all (omega (arith, lines-few text, ltb-false 16384 (length text) e)))

@@ -3,6 +3,7 @@
 --   codeLines c             a line `code=` and its ops
 --   startLines c            a line `starts=` and its starts
 --   Plan                    the codes of the behaviours, and the starts
+--   beforeFirst lastFrom    a number below that of every process; the process of the last of some starts
 --   planLines               the lines of a plan
 --   misplaced node          14: the line of the first op that is not well placed; 0 where there is none
 --   withCode withStart      a node with one more behaviour, and with one more process started

@@ -3,7 +3,7 @@
 --   ranged-kept         what is read with a range;  count-kept  of a line with a key and a number
 --   worse-none          of two refusals none is told only where there is none;  worse-most  the one told is one of them, or 11
 --   StartKept c s       a start of a plan with c behaviours;  start-kept  of a line `start=`
-use mathlib.Core.Bool.{Bool, true, false, _&&_, not, cond, and-eq-true-iff}
+use mathlib.Core.Bool.{Bool, true, false, _&&_, cond, and-eq-true-iff}
 use mathlib.Core.List.{List, []}
 use mathlib.Core.Path.{_≡_, refl}
 use Prim.Native.Nat.{ℕ, _≤_, min}

@@ -12,13 +12,11 @@ use Rattle.node.specs.declared.Value.the-variants.{Int, Atom}
 use Rattle.node.specs.Ops.{operandCounts, kindsOf}
 use Rattle.node.specs.Values.{intZero, pid}
 use Rattle.rules.proofs.Told.{Told}
-use Rattle.rules.specs.Answers.{Answer, refused, done, need}
-use Rattle.text.specs.declared.Parsed.{Parsed}
+use Rattle.rules.specs.Answers.{done, need}
 use Rattle.text.specs.Numbers.{malformed, outOfRange, negative, numberForm, numberValue, ceiling, numberOf, rangedOf}
 use Rattle.text.specs.Parts.{equal, fieldsOf, indexOf, startsWith}
 use Rattle.text.specs.Values.{accepted, byLetter, intOf, minusOf, noValue, plusOf, rangedValue, valueOf}
 use Rattle.plan_line.specs.declared.Coded.{Coded}
-use Rattle.plan_line.specs.declared.Operand.{Operand}
 use Rattle.plan_line.specs.Lines.{notRising, header, opKey, headerTold, headerLine, answered, countTold, countLine, opTold, opLine, startTold, startLine}
 use Rattle.plan_line.specs.Ops.{bare, clauseKind, clauseWords, codedOf, exact, joined, noCode, numeric, operandOf, operandsOf, opOf, opWords, lowest, highest}
 use Rattle.plan_line.proofs.Ranges.{ranged-kept, count-kept, start-kept, worse-most}
@@ -55,7 +53,8 @@ unfolding valueOf byLetter
 value-told [] = omega arith
 value-told (b ∷ l) = go (eqb b 105) (eqb b 97) (eqb b 112)
   where
-    go : (x y z : Bool) → cond x (intOf (numberOf l)) (cond y (rangedValue Atom (rangedOf (numberOf l) 0 255)) (cond z (rangedValue pid (rangedOf (numberOf l) 1 16)) (noValue malformed))) .refusal ≤ outOfRange
+    go : (x y z : Bool)
+        → cond x (intOf (numberOf l)) (cond y (rangedValue Atom (rangedOf (numberOf l) 0 255)) (cond z (rangedValue pid (rangedOf (numberOf l) 1 16)) (noValue malformed))) .refusal ≤ outOfRange
     go true y z = int-told l
     go false true z = ranged-kept l 0 255 .told
     go false false true = ranged-kept l 1 16 .told

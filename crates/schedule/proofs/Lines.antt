@@ -4,15 +4,13 @@
 --   so-room                           the steps are 4,096 entries
 --   so-none so-more                   at the start, and behind one line more
 --   so-unended so-malformed so-over so-all   the answers of `read`
-use mathlib.Core.Bool.{Bool, true, false, _&&_}
+use mathlib.Core.Bool.{Bool, true, false}
 use mathlib.Core.List.{List, [], _∷_, _++_, map, append-assoc}
 use mathlib.Core.Path.{_≡_, refl, sym, ap, _∙_}
 use Prim.Native.Nat.{ℕ, zero, suc, _+_, _-_, _≤_, _<_}
-use native.Mathlib.Numerals.{add-one}
 use native.Mathlib.Omega.{arith}
 use borrow.Author.Tests.{lt-ltb, le-ltb}
-use lib.Dec.{ltb}
-use lib.ListN.{length, take, drop, set, replicate, length-append, length-map}
+use lib.ListN.{length, take, drop, set, replicate, length-append}
 use Rattle.node.specs.Lists.{firsts}
 use Rattle.node.proofs.Lists.{firsts-length}
 use Rattle.rules.specs.Answers.{Answer, refused, done, tooLong}
@@ -20,7 +18,7 @@ use Rattle.text.specs.declared.Ranged.{Ranged}
 use Rattle.text.specs.Parts.{Lines, lineThen, linesOf, placeFrom, fieldsOf, startsWith}
 use Rattle.text.proofs.Parts.{drop-at, tail-part, lines-at, lines-rest, lines-none, starts-long}
 use Rattle.schedule.specs.declared.Schedule.{Schedule}
-use Rattle.schedule.specs.Reading.{malformedLine, byteOf, packedOf, arrivalOf, runKey, arriveKey, stepOf, unended, readLines, firstMalformed, stepsOf, refusedText, acceptedSteps, ofLines, scheduleOf}
+use Rattle.schedule.specs.Reading.{malformedLine, byteOf, packedOf, arrivalOf, runKey, arriveKey, stepOf, readLines, firstMalformed, stepsOf, refusedText, acceptedSteps, ofLines, scheduleOf}
 
 -- ---- one line
 module _ (line : List ℕ) {r : Bool} (h : r ≡ startsWith runKey line) where

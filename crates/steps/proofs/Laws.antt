@@ -146,7 +146,8 @@ module _ (ys : List Step) {g : Played} where
   passed : (left : ℕ) (r : Played) → Walked ys g left r → eqb (r .refusal) 0 ≡ false → Walked ys g 0 r
   passed left r v h = ahead-refused r (map meaning (drop (length ys - 0) ys)) h ∙ sym (ahead-refused r (map meaning (drop (length ys - left) ys)) h) ∙ v
 
-  pub walked-more : (left j : ℕ) (p r : Played) → 0 < left → left ≤ length ys → r ≡ goesOn p (meaning (getD ys (length ys - left) noStep)) → j ≡ cond (eqb (r .refusal) 0) (left - 1) 0 → Walked ys g left p
+  pub walked-more : (left j : ℕ) (p r : Played) → 0 < left → left ≤ length ys → r ≡ goesOn p (meaning (getD ys (length ys - left) noStep)) → j ≡ cond (eqb (r .refusal) 0) (left - 1) 0
+      → Walked ys g left p
       → (j < left) × (r .accepted ≤ p .accepted + 1) × Walked ys g j r
   walked-more left j p r some inside e f v =
       let more : Walked ys g (left - 1) r = rw e (handed left p some inside v) in

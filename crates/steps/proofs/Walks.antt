@@ -20,12 +20,14 @@ abbrev pub Returned : {M : Type 1} (𝓤 : URA M) (R : RattleType) → Item 𝓤
 Returned 𝓤 R tokens said v = later (some (λ (r : R .Denot). (tokens ⊛ ‵ (R .own r (v ∷ []))) ⊛ raw (said r)))
 
 module _ {M : Type 1} {𝓤 : URA M} {H : Heap 𝓤} {A : Atoms 𝓤} {K : Type 0} {W : Given 𝓤 H A} {Γ : List (Item 𝓤)} {G : Goal 𝓤 H} where
-  pub hears-kept : K → Soaks G → (R : RattleType) (tokens : Item 𝓤) {said : R .Denot → SProp 𝓤} {φ : R .Denot → Type 0} → ((r : R .Denot) → ent 𝓤 (said r) (fact 𝓤 (φ r))) → (v : Val) {P : SProp 𝓤} → ent 𝓤 P (mean 𝓤 H A (Returned 𝓤 R tokens said v))
+  pub hears-kept : K → Soaks G → (R : RattleType) (tokens : Item 𝓤) {said : R .Denot → SProp 𝓤} {φ : R .Denot → Type 0} → ((r : R .Denot) → ent 𝓤 (said r) (fact 𝓤 (φ r)))
+      → (v : Val) {P : SProp 𝓤} → ent 𝓤 P (mean 𝓤 H A (Returned 𝓤 R tokens said v))
       → ((r : R .Denot) → φ r → Is R r (v ∷ []) → Seq K W (‵ (R .own r (v ∷ [])) ∷ tokens ∷ Γ) G) → Seq K W (raw P ∷ Γ) G
   hears-kept t z R tokens {said = said} {φ = φ} told v get k =
       use1 W (Returned 𝓤 R tokens said v) get $ await t z $ pick t (λ r. split t $ move t (1 ∷ []) $ use1 W (raw (fact 𝓤 (φ r))) (told r) $
       heard t (φ r) (λ e. split t $ move t (1 ∷ []) $ peeks t R (Is R) (shows 𝓤 H A R) r (v ∷ []) (λ is. k r e is)))
 
-  pub hears : K → Soaks G → (R : RattleType) {said : R .Denot → SProp 𝓤} {φ : R .Denot → Type 0} → ((r : R .Denot) → ent 𝓤 (said r) (fact 𝓤 (φ r))) → (v : Val) {P : SProp 𝓤} → ent 𝓤 P (mean 𝓤 H A (Returned 𝓤 R (‵ ftrue) said v))
+  pub hears : K → Soaks G → (R : RattleType) {said : R .Denot → SProp 𝓤} {φ : R .Denot → Type 0} → ((r : R .Denot) → ent 𝓤 (said r) (fact 𝓤 (φ r))) → (v : Val) {P : SProp 𝓤}
+      → ent 𝓤 P (mean 𝓤 H A (Returned 𝓤 R (‵ ftrue) said v))
       → ((r : R .Denot) → φ r → Is R r (v ∷ []) → Seq K W (‵ (R .own r (v ∷ [])) ∷ Γ) G) → Seq K W (raw P ∷ Γ) G
   hears t z R {said = said} {φ = φ} told v get k = hears-kept t z R (‵ ftrue) {said = said} {φ = φ} told v get (λ r e is. move t (1 ∷ []) $ drop t $ k r e is)

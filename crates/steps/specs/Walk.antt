@@ -5,7 +5,6 @@
 use mathlib.Core.Bool.{cond, not}
 use Prim.Native.Nat.{ℕ, _+_}
 use lib.Dec.{eqb, ltb}
-use lib.ListN.{length}
 use Rattle.node.specs.declared.Node.{Node}
 use Rattle.rules.specs.Answers.{Answer, refused, done, notSound, tooLong}
 use Rattle.rules.specs.Nodes.{sound}

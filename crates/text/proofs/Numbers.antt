@@ -8,7 +8,7 @@ use borrow.Author.Tests.{eq-eqb, ne-eqb, le-leb, lt-leb}
 use lib.Dec.{eqb}
 use lib.ListN.{length, take, drop, getD, drop-of-length-le}
 use Rattle.node.specs.Lists.{allOf}
-use Rattle.rules.specs.Answers.{Answer, refused, done}
+use Rattle.rules.specs.Answers.{Answer}
 use Rattle.text.specs.declared.Number.the-variants as number
 use Rattle.text.specs.declared.Number.{Number}
 use Rattle.text.specs.declared.Ranged.{Ranged}

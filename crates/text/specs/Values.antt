@@ -2,7 +2,7 @@
 --   noValue refusal      what is read where it is refused
 --   accepted v           what is read where it is v
 --   plusOf n minusOf n   the integers n and -n, where they are within their limits
---   intOf n              the integer that the number n is
+--   intOf n              the integer that the number n is, as it was read
 --   rangedValue make n   the value that `make` makes of a number with a range
 --   byLetter b l         a value's letter decides how its number is read; an unknown letter is malformed
 --   valueOf l            what is read of l: a value, or a refusal

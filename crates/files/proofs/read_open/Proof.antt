@@ -1,7 +1,6 @@
 -- `read_open` counts bytes within the buffer and ends: each turn reads at least one. Assumes nothing.
 use mathlib.Core.Path.{_≡_}
 use Prim.Native.Nat.{_-_, _≤_}
-use native.Mathlib.Omega.{arith}
 use borrow.Author.Needs.{needs}
 use lib.ListN.{length}
 use Rattle.files.proofs.read_open.Statement.{statement}

@@ -1,7 +1,7 @@
 -- `start_each` reads starts. The invariant: those that are read are started, and those that are left give the answer. Assumes nothing.
 use mathlib.Core.List.{List, []}
 use mathlib.Core.Path.{refl, ap}
-use Prim.Native.Nat.{ℕ, _≤_, _-_}
+use Prim.Native.Nat.{_≤_, _-_}
 use native.Mathlib.Omega.{arith}
 use borrow.Author.Needs.{needs}
 use Rattle.node.specs.declared.Node.{Node}
@@ -18,7 +18,8 @@ use Rattle.plan.proofs.start_each.Tie as tie
 
 abbrev Inv-loop : tie.InvT-loop
 Inv-loop text node count len mark₀ n₀ last₀ i₀ mark n last i =
-    (i ≤ len) × Turn text (λ (ys : List Start). onLine (startLine count (lastFrom beforeFirst ys))) (begun node) (remains text (λ (ys : List Start). onLine (startLine count (lastFrom beforeFirst ys))) (begun node) len [] (leftAt text mark₀)) i (len - i) mark (n, last)
+    (i ≤ len) × Turn text (λ (ys : List Start). onLine (startLine count (lastFrom beforeFirst ys))) (begun node)
+    (remains text (λ (ys : List Start). onLine (startLine count (lastFrom beforeFirst ys))) (begun node) len [] (leftAt text mark₀)) i (len - i) mark (n, last)
 
 abbrev μ-loop : tie.MeasureT-loop
 μ-loop text node count len mark₀ n₀ last₀ i₀ mark n last i = len - i
@@ -36,7 +37,8 @@ returns c =
     let start-at = c .before .before .before .start-at in
     let turn = c .before .before .before .before .before .loop in
     mapped-on _ _ (begun (args .node)) (withEach withStart (args .node)) _
-    (turn-stop _ _ _ (turn .inv .1) (λ (x : Start). x) (start-read _ (turn .mark) (args .count) (args .node) (turn .inv .1 .xs) (start-at .ensures .0) (turn .inv .1 .made)) (left-one _ _ (loop-test .taken)) (args .node, beforeFirst) (c .if1 .taken))
+    (turn-stop _ _ _ (turn .inv .1) (λ (x : Start). x) (start-read _ (turn .mark) (args .count) (args .node) (turn .inv .1 .xs) (start-at .ensures .0) (turn .inv .1 .made))
+    (left-one _ _ (loop-test .taken)) (args .node, beforeFirst) (c .if1 .taken))
     (λ starts e. ap (λ (b : Node × ProcessNumber). b .0) e)
 
 index-requires : tie.Need-index-requires Inv-loop μ-loop

@@ -1,5 +1,5 @@
 -- `read` gives the steps of a text. The invariant: the lines before the place are steps, and those are stored. Assumes nothing.
-use mathlib.Core.Path.{_≡_, refl, ap}
+use mathlib.Core.Path.{refl, ap}
 use Prim.Native.Nat.{_-_, _≤_}
 use native.Mathlib.Omega.{arith}
 use borrow.Author.Needs.{needs}

@@ -20,7 +20,8 @@ use prog.Wp.{Heap, WpFn, Tables}
 use ghost.Atoms.{Atoms, sem}
 use contract.Monad.{Fun, fact}
 use contract.Running.{givenOf, tables, tablesOf}
-use types.Kit.{Given, Item, ‵, raw, _⊛_, some, later, ⋆, _$_, _∵_, !, qed, by, move, keep, drop, use1, use2, split, join, pick, rewrite, fsplit, fjoin, fpick, fpack, feqL, feqI, suffices, frame, await, done}
+use types.Kit.{Given, Item, ‵, raw, _⊛_, some, later, ⋆, _$_, _∵_, !, qed, by, move, keep, drop}
+use types.Kit.{use1, use2, split, join, pick, rewrite, fsplit, fjoin, fpick, fpack, feqL, feqI, suffices, frame, await, done}
 use types.Part.{agg}
 use types.Run.{look, init, forget, stop, from, load, of-opd, addr, assigns, and-then, no-more, land, returns, enter, alloc1, alloc0, params1, pass1, pass0, free1, free0}
 use types.SemTy.{cells}
@@ -91,7 +92,8 @@ module _ {M : Type 1} (𝓤 : URA M) (H : Heap 𝓤) (A : Atoms 𝓤) (mem : Mem
   abbrev PlaySteps : Contract 𝓤
   PlaySteps = tripleOf 𝓤 H A play-steps.signature (play-steps.spec 𝓤 H A mem run)
 
-  told-steps : (κ : Lft) (n : Node) (s : RefT (List Step)) (r : Played) → ent 𝓤 (ensured 𝓤 H A play-steps.ended (play-steps.clauses 𝓤 H A mem run) (κ, tt) (n, (s, tt)) tt r) (fact 𝓤 (playedOf r ≡ play n (map meaning (s .now))))
+  told-steps : (κ : Lft) (n : Node) (s : RefT (List Step)) (r : Played)
+      → ent 𝓤 (ensured 𝓤 H A play-steps.ended (play-steps.clauses 𝓤 H A mem run) (κ, tt) (n, (s, tt)) tt r) (fact 𝓤 (playedOf r ≡ play n (map meaning (s .now))))
   told-steps κ n s r = exE 𝓤 _ (λ ws. snd∗ 𝓤 (sem 𝓤 H A (lasts play-steps.ended (κ, tt) (n, (s, tt)) ws)) (fact 𝓤 (playedOf r ≡ play n (map meaning (s .now)))))
 
 module _ {M : Type 1} (𝓤 : URA M) (H : Heap 𝓤) (A : Atoms 𝓤) (W : Given 𝓤 H A) (mem : Memory → SProp 𝓤) (run : Routine → Fun 𝓤) (n : Node) (vn : Val) (ys : List Step) (vs : Val) (c : ℕ) where
@@ -120,7 +122,8 @@ module _ {M : Type 1} (𝓤 : URA M) (H : Heap 𝓤) (A : Atoms 𝓤) (W : Given
     exits p v is e =
         qed W (‵ ftrue ∷ []) ∵
         suffices ! _ (ends-at 𝓤 H A lend-first.ended stayed (lend-first.clauses 𝓤 H A mem run) W ((tt, tt, tt, x, at), tt) v p (tt, (tt, (tt, tt))) (tt, (tt, (tt, tt)))) $ says ! e $
-        nothing ! $ owned ! usize (Is usize) (uint-makes 𝓤 H A W w64) c _ (refl, fits) $ fjoin ! $ owned ! Steps (Is Steps) (array-makes 𝓤 H A W S.the-row (LL.makes S.the-type S′.the-plain 𝓤 H A) most) ys _ iss $ fjoin ! $
+        nothing ! $ owned ! usize (Is usize) (uint-makes 𝓤 H A W w64) c _ (refl, fits) $ fjoin ! $
+        owned ! Steps (Is Steps) (array-makes 𝓤 H A W S.the-row (LL.makes S.the-type S′.the-plain 𝓤 H A) most) ys _ iss $ fjoin ! $
         owned ! N.the-row (Is N.the-row) (LL.makes N.the-type N′.the-plain 𝓤 H A) n _ isn $ fjoin ! $ move ! (1 ∷ 0 ∷ []) $
         frame ! $ frame ! $ owned ! P.the-row (Is P.the-row) (LL.makes P.the-type P′.the-plain 𝓤 H A) p _ is $ done !
 
@@ -150,23 +153,30 @@ module _ {M : Type 1} (𝓤 : URA M) (H : Heap 𝓤) (A : Atoms 𝓤) (W : Given
         let short : length (take c ys) * 3 < 2 ^ 63 = omega (arith, count, within) in
         rewrite ! 6 (λ (k : ℕ). ‵ (fat fullShare (tyInt w64) l₃ 0 (vint w64 k))) (sym count) refl $
         assigns ! (addr ! (from ! (stop !))) (from ! (stop !)) (init ! 3 refl (tt, tt)) $
-        assigns ! (agg ! (and-then ! (load ! (from ! (stop !)) (look ! 3 refl)) (and-then ! (load ! (from ! (stop !)) (look ! 6 refl)) (no-more !)))) (from ! (stop !)) (init ! 1 refl (tt, (tt, (record { fits = few }, tt)))) $
+        assigns ! (agg ! (and-then ! (load ! (from ! (stop !)) (look ! 3 refl)) (and-then ! (load ! (from ! (stop !)) (look ! 6 refl)) (no-more !)))) (from ! (stop !))
+        (init ! 1 refl (tt, (tt, (record { fits = few }, tt)))) $
         -- the first of them are lent
         use1 W (‵ (cells (memOf S.the-row) ys l₄ 0)) (whole-in 𝓤 H A W S.the-row ys l₄ 0) $ rewrite ! 0 (λ (zs : List Step). ‵ (cells (memOf S.the-row) zs l₄ 0)) (sym (take-append-drop c ys)) refl $
-        use1 W (‵ (cells (memOf S.the-row) (take c ys) l₄ 0) ⊛ ‵ (cells (memOf S.the-row) (dropL c ys) l₄ (past 0 3 (length (take c ys))))) (cut-app 𝓤 H A (memOf S.the-row) (take c ys) (dropL c ys) l₄ 0) $ split ! $
+        use1 W (‵ (cells (memOf S.the-row) (take c ys) l₄ 0) ⊛ ‵ (cells (memOf S.the-row) (dropL c ys) l₄ (past 0 3 (length (take c ys)))))
+        (cut-app 𝓤 H A (memOf S.the-row) (take c ys) (dropL c ys) l₄ 0) $ split ! $
         use1 W (‵ (row S.the-row fullShare (take c ys) l₄ 0)) (whole-out 𝓤 H A W S.the-row (take c ys) l₄ 0) $ feqI ! ℕ (length (take c ys)) (length (take c ys)) refl $ fjoin ! $
         lft-new ! tt (λ α. move ! (1 ∷ []) $
         use1 W (later (some (λ (γ : GName). Lent l₄ α γ (take c ys) ⊛ ‵ (flent (α ∷ []) (arr-parts (shares S.the-row) (length (take c ys)) .part fullShare (take c ys) l₄ 0)))))
         (lends-shr-slice 𝓤 H A W S.the-row (named 0) (α ∷ []) fullShare (take c ys) l₄ 0 (few, short)) $ await ! tt $ pick ! (λ γ. split ! $ move ! (2 ∷ 0 ∷ []) $
         use2 W (raw (PlaySteps 𝓤 H A mem run .pre (to-steps l₄ α γ (take c ys)))) (goes-steps l₄ α γ (take c ys)) $
         -- [the call's `pre`; what comes back; the other records; _6; ..; _0; that it dies; true; what the parameters own]
-        calls-at ! (fmOf 𝓤 H (W .laws) 𝓣) (PlaySteps 𝓤 H A mem run) known-steps (to-steps l₄ α γ (take c ys)) (and-then ! (load ! (from ! (stop !)) (look ! 12 refl)) (and-then ! (load ! (from ! (stop !)) (look ! 3 refl)) (no-more !))) (λ w.
-        hears-kept ! tt P.the-row (‵ (flft (α ∷ []) fullShare) ⊛ ‵ ftrue) (told-steps 𝓤 H A mem run (α ∷ []) n (lent l₄ γ (take c ys))) w (id⊢ 𝓤 _) (λ p e isp. move ! (1 ∷ []) $ split ! $ move ! (2 ∷ []) $
+        calls-at ! (fmOf 𝓤 H (W .laws) 𝓣) (PlaySteps 𝓤 H A mem run) known-steps (to-steps l₄ α γ (take c ys)) (and-then ! (load ! (from ! (stop !)) (look ! 12 refl))
+        (and-then ! (load ! (from ! (stop !)) (look ! 3 refl)) (no-more !))) (λ w.
+        hears-kept ! tt P.the-row (‵ (flft (α ∷ []) fullShare) ⊛ ‵ ftrue) (told-steps 𝓤 H A mem run (α ∷ []) n (lent l₄ γ (take c ys))) w (id⊢ 𝓤 _) (λ p e isp. move ! (1 ∷ []) $ split ! $
+        move ! (2 ∷ []) $
         land ! (from ! (stop !)) (init ! 16 refl (LL.lawful P.the-type P′.the-laws 𝓤 H A W .typed p _ isp .0)) $ drop ! $
         -- the lifetime is over, and the records are one array again
-        lft-end ! tt $ move ! (0 ∷ 2 ∷ []) $ lent-back ! tt $ fsplit ! $ drop ! $ use1 W (‵ (cells (memOf S.the-row) (take c ys) l₄ 0)) (whole-in 𝓤 H A W S.the-row (take c ys) l₄ 0) $ move ! (0 ∷ 2 ∷ []) $
-        use2 W (‵ (cells (memOf S.the-row) (take c ys ++ dropL c ys) l₄ 0)) (join-app 𝓤 H A (memOf S.the-row) (take c ys) (dropL c ys) l₄ 0) $ rewrite ! 0 (λ (zs : List Step). ‵ (cells (memOf S.the-row) zs l₄ 0)) (take-append-drop c ys) refl $
-        use1 W (‵ (row S.the-row fullShare ys l₄ 0)) (whole-out 𝓤 H A W S.the-row ys l₄ 0) $ feqI ! ℕ (length ys) most size $ fjoin ! $ use1 W (‵ (partAt Steps fullShare ys l₄ 0)) (array-whole 𝓤 H A W S.the-row fullShare most ys l₄ 0) $
+        lft-end ! tt $ move ! (0 ∷ 2 ∷ []) $ lent-back ! tt $ fsplit ! $ drop ! $ use1 W (‵ (cells (memOf S.the-row) (take c ys) l₄ 0)) (whole-in 𝓤 H A W S.the-row (take c ys) l₄ 0) $
+        move ! (0 ∷ 2 ∷ []) $
+        use2 W (‵ (cells (memOf S.the-row) (take c ys ++ dropL c ys) l₄ 0)) (join-app 𝓤 H A (memOf S.the-row) (take c ys) (dropL c ys) l₄ 0) $
+        rewrite ! 0 (λ (zs : List Step). ‵ (cells (memOf S.the-row) zs l₄ 0)) (take-append-drop c ys) refl $
+        use1 W (‵ (row S.the-row fullShare ys l₄ 0)) (whole-out 𝓤 H A W S.the-row ys l₄ 0) $ feqI ! ℕ (length ys) most size $ fjoin ! $
+        use1 W (‵ (partAt Steps fullShare ys l₄ 0)) (array-whole 𝓤 H A W S.the-row fullShare most ys l₄ 0) $
         fpick ! (λ us. fsplit ! $ move ! (1 ∷ []) $ peeks ! Steps (Is Steps) (shows 𝓤 H A Steps) ys us (λ r. drop ! $
         rewrite ! 0 (λ (ws : List Val). ‵ (cellAt fullShare (Steps .mir) ws l₄ 0)) (array-tells S.the-row (LL.vals S.the-type S′.the-laws) (LL.tells S.the-type S′.the-laws) most ys us r) refl $
         use1 W (‵ (fat fullShare stepsTy l₄ 0 (only (array-vals (LL.vals S.the-type S′.the-laws) ys)))) (W .laws .raw-at fullShare stepsTy l₄ 0 _) $
@@ -175,15 +185,26 @@ module _ {M : Type 1} (𝓤 : URA M) (H : Heap 𝓤) (A : Atoms 𝓤) (W : Given
         move ! (13 ∷ 14 ∷ []) $ free1 ! $ move ! (11 ∷ 12 ∷ []) $ free1 ! $ move ! (9 ∷ 10 ∷ []) $ free1 ! $ move ! (7 ∷ 8 ∷ []) $ free1 ! $ move ! (0 ∷ 6 ∷ []) $ free1 ! $
         move ! (3 ∷ 4 ∷ []) $ free1 ! $ move ! (1 ∷ 2 ∷ []) $ free1 ! $ free0 ! $ keep ! (0 ∷ []) $ by ! (exits p w isp e)))))))))))))))
 
-module _ {M : Type 1} (𝓤 : URA M) (H : Heap 𝓤) (A : Atoms 𝓤) (W : Given 𝓤 H A) (mem : Memory → SProp 𝓤) (run : Routine → Fun 𝓤) (𝓣 : Tables 𝓤 H) (known-steps : Triple 𝓤 (𝓣 .C #steps·play-steps) (PlaySteps 𝓤 H A mem run)) where
+module _ {M : Type 1} (𝓤 : URA M) (H : Heap 𝓤) (A : Atoms 𝓤) (W : Given 𝓤 H A) (mem : Memory → SProp 𝓤) (run : Routine → Fun 𝓤) (𝓣 : Tables 𝓤 H)
+    (known-steps : Triple 𝓤 (𝓣 .C #steps·play-steps) (PlaySteps 𝓤 H A mem run)) where
   lend-walks : Walks 𝓤 H A lend-first.ended stayed (WpFn 𝓤 H (𝓣 .C) (𝓣 .Λ) code.function) (lend-first.clauses 𝓤 H A mem run)
-  lend-walks = walked 𝓤 H A lend-first.ended stayed (lend-first.clauses 𝓤 H A mem run) (WpFn 𝓤 H (𝓣 .C) (𝓣 .Λ) code.function) (λ κs. (LL.vals N.the-type N′.the-laws, (array-vals (LL.vals S.the-type S′.the-laws), (uint-vals w64, tt))))
+  lend-walks =
+      walked 𝓤 H A lend-first.ended stayed (lend-first.clauses 𝓤 H A mem run) (WpFn 𝓤 H (𝓣 .C) (𝓣 .Λ) code.function)
+      (λ κs. (LL.vals N.the-type N′.the-laws, (array-vals (LL.vals S.the-type S′.the-laws), (uint-vals w64, tt))))
       (λ κs. (LL.tells N.the-type N′.the-laws, (array-tells S.the-row (LL.vals S.the-type S′.the-laws) (LL.tells S.the-type S′.the-laws) most, (uint-tells w64, tt))))
       (λ κs qs bounds a g are. needs 𝓤 (a .1 .1 .0 ≤ most) _
-      (walk 𝓤 H A W mem run (a .0) (only (LL.vals N.the-type N′.the-laws (a .0))) (a .1 .0) (only (array-vals (LL.vals S.the-type S′.the-laws) (a .1 .0))) (a .1 .1 .0) 𝓣 known-steps (are .0) (are .1 .0) (are .1 .1 .0 .1)))
+      (walk 𝓤 H A W mem run (a .0) (only (LL.vals N.the-type N′.the-laws (a .0))) (a .1 .0)
+      (only (array-vals (LL.vals S.the-type S′.the-laws) (a .1 .0))) (a .1 .1 .0) 𝓣 known-steps (are .0) (are .1 .0) (are .1 .1 .0 .1)))
 
   lend-meets : Meets 𝓤 H A lend-first.signature (WpFn 𝓤 H (𝓣 .C) (𝓣 .Λ) code.function) (lend-first.spec 𝓤 H A mem run)
-  lend-meets = walk-meets 𝓤 H A lend-first.ended stayed W (goes-none 𝓤 H A W 0 (λ _. N.the-row) yes (λ κs x f. refl), (goes-none 𝓤 H A W 0 (λ _. Steps) yes (λ κs x f. refl), (goes-none 𝓤 H A W 0 (λ _. usize) yes (λ κs x f. refl), tt)))
+  lend-meets =
+      walk-meets 𝓤 H A lend-first.ended stayed W (
+        goes-none 𝓤 H A W 0 (λ _. N.the-row) yes (λ κs x f. refl),
+        (
+          goes-none 𝓤 H A W 0 (λ _. Steps) yes (λ κs x f. refl),
+          (goes-none 𝓤 H A W 0 (λ _. usize) yes (λ κs x f. refl), tt),
+        ),
+      )
       (lend-first.clauses 𝓤 H A mem run) (WpFn 𝓤 H (𝓣 .C) (𝓣 .Λ) code.function) (WpFn-mono 𝓤 H (W .laws) 𝓣 code.function) lend-walks
 
 pub lend-first-spec : {M : Type 1} → stated.statement M

@@ -27,7 +27,8 @@ use contract.Monad.{Fun, fact}
 use contract.Running.{givenOf, tables, tablesOf}
 use types.Kit.{Given, Item, ‵, raw, _⊛_, ⋆, anyQ, atRet, runs, Sq, _$_, _∵_, !, qed, by, move, keep, drop, use1, split, join, rewrite, fsplit, fjoin, suffices, frame, done}
 use types.Part.{whole, sub, look-in}
-use types.Run.{look, look-raw, store, init, forget, stop, hop, fld, from, load, lit, of-opd, bin, assigns, stays, leaves-loop, first, blocks, and-then, no-more, land, land-last, returns, enter, alloc1, alloc0, params1, pass1, pass0, free1, free0, exec, Below, again, loops}
+use types.Run.{look, look-raw, store, init, forget, stop, hop, fld, from, load, lit, of-opd, bin, assigns, stays, leaves-loop, first}
+use types.Run.{blocks, and-then, no-more, land, land-last, returns, enter, alloc1, alloc0, params1, pass1, pass0, free1, free0, exec, Below, again, loops}
 use sound.WpLaws.{fmOf, WpFn-mono}
 use denote.RattleType.{owns}
 use denote.Laws.{Is, shows}
@@ -143,7 +144,8 @@ module _ {M : Type 1} (𝓤 : URA M) (H : Heap 𝓤) (A : Atoms 𝓤) (mem : Mem
   told-reach : (p : Played) (m r : ℕ) → ent 𝓤 (ensured 𝓤 H A reach.ended (reach.clauses 𝓤 H A mem run) tt (p, (m, tt)) tt r) (fact 𝓤 (r ≡ cond (eqb (p .refusal) 0) m 0))
   told-reach p m r = exE 𝓤 _ (λ ws. snd∗ 𝓤 (sem 𝓤 H A (lasts reach.ended tt (p, (m, tt)) ws)) (fact 𝓤 (r ≡ cond (eqb (p .refusal) 0) m 0)))
 
-module _ {M : Type 1} (𝓤 : URA M) (H : Heap 𝓤) (A : Atoms 𝓤) (W : Given 𝓤 H A) (mem : Memory → SProp 𝓤) (run : Routine → Fun 𝓤) (κ : Lft) (q : Share) (n : Node) (vn : Val) (b o : ℕ) (γ : GName) (ys : List Step) where
+module _ {M : Type 1} (𝓤 : URA M) (H : Heap 𝓤) (A : Atoms 𝓤) (W : Given 𝓤 H A) (mem : Memory → SProp 𝓤)
+    (run : Routine → Fun 𝓤) (κ : Lft) (q : Share) (n : Node) (vn : Val) (b o : ℕ) (γ : GName) (ys : List Step) where
   abbrev x : Arg
   x = (n, (record { ptr = (b, o); name = γ; now = ys }, tt))
 
@@ -163,7 +165,8 @@ module _ {M : Type 1} (𝓤 : URA M) (H : Heap 𝓤) (A : Atoms 𝓤) (W : Given
   exits isn p v is e =
       qed W (‵ (flft κ q) ∷ Own ∷ []) ∵
       suffices ! _ (ends-at 𝓤 H A play-steps.ended stayed (play-steps.clauses 𝓤 H A mem run) W (((κ, tt), (q, tt), tt, x, at), tt) v p (tt, (tt, tt)) (tt, (tt, tt))) $ says ! e $
-      nothing ! $ move ! (1 ∷ 0 ∷ []) $ join ! $ nothing ! $ move ! (2 ∷ 0 ∷ []) $ fjoin ! $ owned ! N.the-row (Is N.the-row) (LL.makes N.the-type N′.the-plain 𝓤 H A) n _ isn $ fjoin ! $ move ! (1 ∷ 0 ∷ []) $
+      nothing ! $ move ! (1 ∷ 0 ∷ []) $ join ! $ nothing ! $ move ! (2 ∷ 0 ∷ []) $ fjoin ! $ owned ! N.the-row (Is N.the-row) (LL.makes N.the-type N′.the-plain 𝓤 H A) n _ isn $ fjoin ! $
+      move ! (1 ∷ 0 ∷ []) $
       frame ! $ frame ! $ owned ! P.the-row (Is P.the-row) (LL.makes P.the-type P′.the-plain 𝓤 H A) p _ is $ done !
 
   -- each call's ghost value, and that its `requires` is met
@@ -178,7 +181,8 @@ module _ {M : Type 1} (𝓤 : URA M) (H : Heap 𝓤) (A : Atoms 𝓤) (W : Given
   abbrev to-onward : Played → Val → Step → Onward 𝓤 H A mem run .Ghost
   to-onward p v s = ((tt, tt, tt, (p, (s, tt)), (v ∷ [], (S′.lowered s ∷ [], tt))), tt)
 
-  goes-onward : (p : Played) (v : Val) (s : Step) → Is P.the-row p (v ∷ []) → Is S.the-row s (S′.lowered s ∷ []) → p .accepted + 1 < 2 ^ 64 → ent 𝓤 (sem 𝓤 H A ftrue) (Onward 𝓤 H A mem run .pre (to-onward p v s))
+  goes-onward : (p : Played) (v : Val) (s : Step) → Is P.the-row p (v ∷ []) → Is S.the-row s (S′.lowered s ∷ []) → p .accepted + 1 < 2 ^ 64
+      → ent 𝓤 (sem 𝓤 H A ftrue) (Onward 𝓤 H A mem run .pre (to-onward p v s))
   goes-onward p v s isp iss few =
       qed W (‵ ftrue ∷ []) ∵ says ! few $ nothing ! $ owned ! S.the-row (Is S.the-row) (LL.makes S.the-type S′.the-plain 𝓤 H A) s _ iss $ fjoin ! $
       owned ! P.the-row (Is P.the-row) (LL.makes P.the-type P′.the-plain 𝓤 H A) p _ isp $ fjoin ! $ move ! (1 ∷ 0 ∷ []) $ frame ! $ done !
@@ -188,10 +192,12 @@ module _ {M : Type 1} (𝓤 : URA M) (H : Heap 𝓤) (A : Atoms 𝓤) (W : Given
 
   goes-reach : (p : Played) (v : Val) (m : ℕ) → Is P.the-row p (v ∷ []) → m < 2 ^ 64 → ent 𝓤 (sem 𝓤 H A ftrue) (Reach 𝓤 H A mem run .pre (to-reach p v m))
   goes-reach p v m isp g =
-      qed W (‵ ftrue ∷ []) ∵ nothing ! $ owned ! usize (Is usize) (uint-makes 𝓤 H A W w64) m _ (refl, g) $ fjoin ! $ owned ! P.the-row (Is P.the-row) (LL.makes P.the-type P′.the-plain 𝓤 H A) p _ isp $ fjoin ! $
+      qed W (‵ ftrue ∷ []) ∵ nothing ! $ owned ! usize (Is usize) (uint-makes 𝓤 H A W w64) m _ (refl, g) $ fjoin ! $
+      owned ! P.the-row (Is P.the-row) (LL.makes P.the-type P′.the-plain 𝓤 H A) p _ isp $ fjoin ! $
       move ! (1 ∷ 0 ∷ []) $ join ! $ frame ! $ done !
 
-  module _ (𝓣 : Tables 𝓤 H) (known-begun : Triple 𝓤 (𝓣 .C #steps·begun) (Begun 𝓤 H A mem run)) (known-onward : Triple 𝓤 (𝓣 .C #steps·onward) (Onward 𝓤 H A mem run)) (known-reach : Triple 𝓤 (𝓣 .C #steps·reach) (Reach 𝓤 H A mem run))
+  module _ (𝓣 : Tables 𝓤 H) (known-begun : Triple 𝓤 (𝓣 .C #steps·begun) (Begun 𝓤 H A mem run)) (known-onward : Triple 𝓤 (𝓣 .C #steps·onward) (Onward 𝓤 H A mem run))
+      (known-reach : Triple 𝓤 (𝓣 .C #steps·reach) (Reach 𝓤 H A mem run))
       (isn : Is N.the-row n (vn ∷ [])) (gn : Room S.the-row (length ys)) where
     abbrev C : Calls 𝓤 H
     C = 𝓣 .C
@@ -204,13 +210,19 @@ module _ {M : Type 1} (𝓤 : URA M) (H : Heap 𝓤) (A : Atoms 𝓤) (W : Given
       slice = sliceTy (tyRef (named 0) imm (pointee (S.the-row .written)))
 
       abbrev En : Env 𝓤 H
-      En = (P′.mir, l₀) ∷ (N′.mir, l₁) ∷ (slice, l₂) ∷ (P′.mir, l₃) ∷ (tyInt w64, l₄) ∷ (tyInt w64, l₅) ∷ (tyBool, l₆) ∷ (tyInt w64, l₇) ∷ (tyInt w64, l₈) ∷ (tyInt w64, l₉) ∷ (tyPtr, l₁₀) ∷ (S′.mir, l₁₁) ∷ []
+      En =
+          (P′.mir, l₀) ∷ (N′.mir, l₁) ∷ (slice, l₂) ∷ (P′.mir, l₃) ∷ (tyInt w64, l₄) ∷ (tyInt w64, l₅) ∷ (tyBool, l₆) ∷ (tyInt w64, l₇) ∷ (tyInt w64, l₈) ∷ (tyInt w64, l₉)
+          ∷ (tyPtr, l₁₀) ∷ (S′.mir, l₁₁) ∷ []
 
       -- what is had of local j stands at j; then the token, what the slice owns, and that each local dies
       abbrev I : Spot ys goal → List (Item 𝓤)
-      I t = ‵ (froom P′.mir l₀ 0) ∷ ‵ (fat fullShare N′.mir l₁ 0 vn) ∷ ‵ (fat fullShare slice l₂ 0 (sliceVal (b, o) (length ys))) ∷ ‵ (fat fullShare P′.mir l₃ 0 (t .v)) ∷ ‵ (fat fullShare (tyInt w64) l₄ 0 (vint w64 (t .left)))
-          ∷ ‵ (froom (tyInt w64) l₅ 0) ∷ ‵ (froom tyBool l₆ 0) ∷ ‵ (froom (tyInt w64) l₇ 0) ∷ ‵ (froom (tyInt w64) l₈ 0) ∷ ‵ (froom (tyInt w64) l₉ 0) ∷ ‵ (froom tyPtr l₁₀ 0) ∷ ‵ (froom S′.mir l₁₁ 0) ∷ ‵ (flft κ q) ∷ Own
-          ∷ ‵ (fdies P′.mir l₀) ∷ ‵ (fdies N′.mir l₁) ∷ ‵ (fdies slice l₂) ∷ ‵ (fdies P′.mir l₃) ∷ ‵ (fdies (tyInt w64) l₄) ∷ ‵ (fdies (tyInt w64) l₅) ∷ ‵ (fdies tyBool l₆) ∷ ‵ (fdies (tyInt w64) l₇) ∷ ‵ (fdies (tyInt w64) l₈)
+      I t =
+          ‵ (froom P′.mir l₀ 0) ∷ ‵ (fat fullShare N′.mir l₁ 0 vn) ∷ ‵ (fat fullShare slice l₂ 0 (sliceVal (b, o) (length ys))) ∷ ‵ (fat fullShare P′.mir l₃ 0 (t .v))
+          ∷ ‵ (fat fullShare (tyInt w64) l₄ 0 (vint w64 (t .left)))
+          ∷ ‵ (froom (tyInt w64) l₅ 0) ∷ ‵ (froom tyBool l₆ 0) ∷ ‵ (froom (tyInt w64) l₇ 0) ∷ ‵ (froom (tyInt w64) l₈ 0) ∷ ‵ (froom (tyInt w64) l₉ 0) ∷ ‵ (froom tyPtr l₁₀ 0)
+          ∷ ‵ (froom S′.mir l₁₁ 0) ∷ ‵ (flft κ q) ∷ Own
+          ∷ ‵ (fdies P′.mir l₀) ∷ ‵ (fdies N′.mir l₁) ∷ ‵ (fdies slice l₂) ∷ ‵ (fdies P′.mir l₃) ∷ ‵ (fdies (tyInt w64) l₄) ∷ ‵ (fdies (tyInt w64) l₅) ∷ ‵ (fdies tyBool l₆)
+          ∷ ‵ (fdies (tyInt w64) l₇) ∷ ‵ (fdies (tyInt w64) l₈)
           ∷ ‵ (fdies (tyInt w64) l₉) ∷ ‵ (fdies tyPtr l₁₀) ∷ ‵ (fdies S′.mir l₁₁) ∷ []
 
       abbrev less : Spot ys goal → Spot ys goal → Type 0
@@ -241,17 +253,20 @@ module _ {M : Type 1} (𝓤 : URA M) (H : Heap 𝓤) (A : Atoms 𝓤) (W : Given
           looks-slice ! tt S.the-row (Is S.the-row) (shows 𝓤 H A S.the-row) (LL.vals S.the-type S′.the-laws) (LL.tells S.the-type S′.the-laws) (LL.copy S.the-type S′.the-copy 𝓤 H A W) ys b o (λ q′.
           elem-out ! S.the-row (Is S.the-row) (shows 𝓤 H A S.the-row) (LL.vals S.the-type S′.the-laws) (LL.tells S.the-type S′.the-laws) q′ ys k noStep b o here (λ g.
           -- [steps[k]; what it owns; the others; what shuts; the fractured borrow; res; the slice's fact; the locals; that each dies]
-          assigns ! (of-opd ! (load ! (from ! (hop ! (look ! 17 refl) (stop !))) (look-raw ! 0 refl))) (from ! (stop !)) (init ! 18 refl (LL.lawful S.the-type S′.the-laws 𝓤 H A W .typed (getD ys k noStep) _ g .0)) $
+          assigns ! (of-opd ! (load ! (from ! (hop ! (look ! 17 refl) (stop !))) (look-raw ! 0 refl))) (from ! (stop !))
+          (init ! 18 refl (LL.lawful S.the-type S′.the-laws 𝓤 H A W .typed (getD ys k noStep) _ g .0)) $
           elem-back ! S.the-row q′ ys k noStep (S′.lowered (getD ys k noStep) ∷ []) b o here $ shuts-slice ! tt S.the-row q′ ys b o $
           move ! (2 ∷ 1 ∷ []) $ fjoin ! $ move ! (2 ∷ 0 ∷ []) $ fjoin ! $
           -- [what steps owns; the token; the locals; that each dies]
           nothing ! $ use1 W (raw (Onward 𝓤 H A mem run .pre (to-onward (t .p) (t .v) (getD ys k noStep)))) (goes-onward (t .p) (t .v) (getD ys k noStep) (t .is) g counts) $
-          calls-at ! (fmOf 𝓤 H (W .laws) 𝓣) (Onward 𝓤 H A mem run) known-onward (to-onward (t .p) (t .v) (getD ys k noStep)) (and-then ! (load ! (from ! (stop !)) (look ! 6 refl)) (and-then ! (load ! (from ! (stop !)) (look ! 14 refl)) (no-more !))) (λ v.
+          calls-at ! (fmOf 𝓤 H (W .laws) 𝓣) (Onward 𝓤 H A mem run) known-onward (to-onward (t .p) (t .v) (getD ys k noStep)) (and-then ! (load ! (from ! (stop !)) (look ! 6 refl))
+          (and-then ! (load ! (from ! (stop !)) (look ! 14 refl)) (no-more !))) (λ v.
           hears ! tt P.the-row (told-onward 𝓤 H A mem run (t .p) (getD ys k noStep)) v (id⊢ 𝓤 _) (λ r e is.
           land ! (from ! (stop !)) (store ! 6 refl (LL.lawful P.the-type P′.the-laws 𝓤 H A W .typed r _ is .0)) $ drop ! $
           assigns ! (bin ! (load ! (from ! (stop !)) (look ! 6 refl)) (lit ! tt) (omega (arith, some))) (from ! (stop !)) (store ! 9 refl (tt, record { fits = omega (arith, t .inside, gn .0) })) $
           nothing ! $ use1 W (raw (Reach 𝓤 H A mem run .pre (to-reach r v _))) (goes-reach r v _ is (omega (arith, t .inside, gn .0))) $
-          calls-at-last ! (fmOf 𝓤 H (W .laws) 𝓣) (Reach 𝓤 H A mem run) known-reach (to-reach r v _) (and-then ! (load ! (from ! (stop !)) (look ! 6 refl)) (and-then ! (load ! (from ! (stop !)) (look ! 10 refl)) (no-more !))) (λ w.
+          calls-at-last ! (fmOf 𝓤 H (W .laws) 𝓣) (Reach 𝓤 H A mem run) known-reach (to-reach r v _) (and-then ! (load ! (from ! (stop !)) (look ! 6 refl))
+          (and-then ! (load ! (from ! (stop !)) (look ! 10 refl)) (no-more !))) (λ w.
           hears ! tt usize (told-reach 𝓤 H A mem run r _) w (id⊢ 𝓤 _) (λ j f isj.
           land-last ! (from ! (stop !)) (store ! 7 refl (uint-lawful 𝓤 H A W w64 .typed j _ isj .0)) $ drop ! $
           rewrite ! 6 (λ (u : Val). ‵ (fat fullShare (tyInt w64) l₄ 0 u)) (ap only (uint-tells w64 j (w ∷ []) isj)) refl $
@@ -264,11 +279,14 @@ module _ {M : Type 1} (𝓤 : URA M) (H : Heap 𝓤) (A : Atoms 𝓤) (W : Given
       unfolding afterTurn
       ends t none =
           assigns ! (bin ! (lit ! tt) (load ! (from ! (stop !)) (look ! 4 refl)) tt) (from ! (stop !)) (init ! 6 refl (tt, tt)) $
-          rewrite ! 6 (λ (y : Bool). ‵ (fat fullShare tyBool l₆ 0 (vbool y))) (le-ltb _ (t .left) (omega (arith, none))) refl $ leaves-loop ! (load ! (from ! (stop !)) (look ! 6 refl)) $ exec ! C Λ En body.t-5 (atRet En Post) $
+          rewrite ! 6 (λ (y : Bool). ‵ (fat fullShare tyBool l₆ 0 (vbool y))) (le-ltb _ (t .left) (omega (arith, none))) refl $ leaves-loop ! (load ! (from ! (stop !)) (look ! 6 refl)) $
+          exec ! C Λ En body.t-5 (atRet En Post) $
           assigns ! (of-opd ! (load ! (from ! (stop !)) (look ! 3 refl))) (from ! (stop !)) (init ! 0 refl (LL.lawful P.the-type P′.the-laws 𝓤 H A W .typed (t .p) _ (t .is) .0)) $
           returns ! (look ! 0 refl) $ forget ! 0 refl $ forget ! 1 refl $ forget ! 2 refl $ forget ! 3 refl $ forget ! 4 refl $ forget ! 6 refl $
-          move ! (0 ∷ 14 ∷ []) $ free1 ! $ move ! (0 ∷ 13 ∷ []) $ free1 ! $ move ! (0 ∷ 12 ∷ []) $ free1 ! $ move ! (0 ∷ 11 ∷ []) $ free1 ! $ move ! (0 ∷ 10 ∷ []) $ free1 ! $ move ! (0 ∷ 9 ∷ []) $ free1 ! $
-          move ! (0 ∷ 8 ∷ []) $ free1 ! $ move ! (0 ∷ 7 ∷ []) $ free1 ! $ move ! (0 ∷ 6 ∷ []) $ free1 ! $ move ! (0 ∷ 5 ∷ []) $ free1 ! $ move ! (0 ∷ 4 ∷ []) $ free1 ! $ move ! (0 ∷ 3 ∷ []) $ free1 ! $ free0 ! $
+          move ! (0 ∷ 14 ∷ []) $ free1 ! $ move ! (0 ∷ 13 ∷ []) $ free1 ! $ move ! (0 ∷ 12 ∷ []) $ free1 ! $ move ! (0 ∷ 11 ∷ []) $ free1 ! $ move ! (0 ∷ 10 ∷ []) $ free1 ! $
+          move ! (0 ∷ 9 ∷ []) $ free1 ! $
+          move ! (0 ∷ 8 ∷ []) $ free1 ! $ move ! (0 ∷ 7 ∷ []) $ free1 ! $ move ! (0 ∷ 6 ∷ []) $ free1 ! $ move ! (0 ∷ 5 ∷ []) $ free1 ! $ move ! (0 ∷ 4 ∷ []) $ free1 ! $ move ! (0 ∷ 3 ∷ []) $
+          free1 ! $ free0 ! $
           by ! (exits isn (t .p) (t .v) (t .is) (walked-last ys (t .left) (playedOf (t .p)) none (t .same)))
 
       turn : (t : Spot ys goal) → Sq W (I t) (runs C Λ En body.turn-1 (anyQ (afterTurn 𝓤 H (Below 𝓤 H A less I t) Left)))
@@ -283,12 +301,14 @@ module _ {M : Type 1} (𝓤 : URA M) (H : Heap 𝓤) (A : Atoms 𝓤) (W : Given
     unfolding begins-at
     walk =
         qed W ((‵ (flft κ q) ⊛ ‵ ftrue) ∷ ‵ (owns (N.the-row ∷ ShrSlice (named 0) κ S.the-row ∷ []) x at) ∷ []) ∵ enter ! C Λ code.function (vn ∷ sliceVal (b, o) (length ys) ∷ []) _ $
-        alloc1 ! (λ l₀. alloc1 ! (λ l₁. alloc1 ! (λ l₂. alloc1 ! (λ l₃. alloc1 ! (λ l₄. alloc1 ! (λ l₅. alloc1 ! (λ l₆. alloc1 ! (λ l₇. alloc1 ! (λ l₈. alloc1 ! (λ l₉. alloc1 ! (λ l₁₀. alloc1 ! (λ l₁₁. alloc0 ! $ params1 ! $
+        alloc1 ! (λ l₀. alloc1 ! (λ l₁. alloc1 ! (λ l₂. alloc1 ! (λ l₃. alloc1 ! (λ l₄. alloc1 ! (λ l₅. alloc1 ! (λ l₆. alloc1 ! (λ l₇. alloc1 ! (λ l₈. alloc1 ! (λ l₉. alloc1 ! (λ l₁₀.
+        alloc1 ! (λ l₁₁. alloc0 ! $ params1 ! $
         -- [_11; that it dies; ..; _0; that it dies; the token; what the parameters own]
         pass1 ! (init ! 20 refl (LL.lawful N.the-type N′.the-laws 𝓤 H A W .typed n _ isn .0)) $ pass1 ! (init ! 18 refl (tt, (tt, (record { fits = gn .0 }, tt)))) $ pass0 ! $
         assigns ! (of-opd ! (load ! (from ! (fld ! refl (stop !))) (look-in ! 18 (sub ! 1 refl (whole !))))) (from ! (stop !)) (init ! 12 refl (tt, record { fits = gn .0 })) $
         nothing ! $ use1 W (raw (Begun 𝓤 H A mem run .pre to-begun)) (goes-begun isn (gn .0)) $
-        calls-at ! (fmOf 𝓤 H (W .laws) 𝓣) (Begun 𝓤 H A mem run) known-begun to-begun (and-then ! (load ! (from ! (stop !)) (look ! 21 refl)) (and-then ! (load ! (from ! (stop !)) (look ! 13 refl)) (no-more !))) (λ v.
+        calls-at ! (fmOf 𝓤 H (W .laws) 𝓣) (Begun 𝓤 H A mem run) known-begun to-begun (and-then ! (load ! (from ! (stop !)) (look ! 21 refl))
+        (and-then ! (load ! (from ! (stop !)) (look ! 13 refl)) (no-more !))) (λ v.
         hears ! tt P.the-row (told-begun 𝓤 H A mem run n (length ys)) v (id⊢ 𝓤 _) (λ r e is.
         land ! (from ! (stop !)) (init ! 17 refl (LL.lawful P.the-type P′.the-laws 𝓤 H A W .typed r _ is .0)) $ drop ! $
         assigns ! (of-opd ! (load ! (from ! (fld ! refl (stop !))) (look-in ! 18 (sub ! 1 refl (whole !))))) (from ! (stop !)) (init ! 14 refl (tt, record { fits = gn .0 })) $ forget ! 12 refl $
@@ -297,15 +317,21 @@ module _ {M : Type 1} (𝓤 : URA M) (H : Heap 𝓤) (A : Atoms 𝓤) (W : Given
         keep ! (26 ∷ 24 ∷ 22 ∷ 20 ∷ 18 ∷ 16 ∷ 14 ∷ 12 ∷ 10 ∷ 8 ∷ 6 ∷ 4 ∷ 0 ∷ 2 ∷ 27 ∷ 25 ∷ 23 ∷ 21 ∷ 19 ∷ 17 ∷ 15 ∷ 13 ∷ 11 ∷ 9 ∷ 7 ∷ 5 ∷ []) $
         rounds l₀ l₁ l₂ l₃ l₄ l₅ l₆ l₇ l₈ l₉ l₁₀ l₁₁ (begins-at n r v is e)))))))))))))))
 
-module _ {M : Type 1} (𝓤 : URA M) (H : Heap 𝓤) (A : Atoms 𝓤) (W : Given 𝓤 H A) (mem : Memory → SProp 𝓤) (run : Routine → Fun 𝓤) (𝓣 : Tables 𝓤 H) (known-begun : Triple 𝓤 (𝓣 .C #steps·begun) (Begun 𝓤 H A mem run)) (known-onward : Triple 𝓤 (𝓣 .C #steps·onward) (Onward 𝓤 H A mem run))
+module _ {M : Type 1} (𝓤 : URA M) (H : Heap 𝓤) (A : Atoms 𝓤) (W : Given 𝓤 H A) (mem : Memory → SProp 𝓤) (run : Routine → Fun 𝓤) (𝓣 : Tables 𝓤 H)
+    (known-begun : Triple 𝓤 (𝓣 .C #steps·begun) (Begun 𝓤 H A mem run)) (known-onward : Triple 𝓤 (𝓣 .C #steps·onward) (Onward 𝓤 H A mem run))
     (known-reach : Triple 𝓤 (𝓣 .C #steps·reach) (Reach 𝓤 H A mem run)) where
   play-walks : Walks 𝓤 H A play-steps.ended stayed (WpFn 𝓤 H (𝓣 .C) (𝓣 .Λ) code.function) (play-steps.clauses 𝓤 H A mem run)
-  play-walks = walked 𝓤 H A play-steps.ended stayed (play-steps.clauses 𝓤 H A mem run) (WpFn 𝓤 H (𝓣 .C) (𝓣 .Λ) code.function) (λ κs. (LL.vals N.the-type N′.the-laws, (slice-vals, tt))) (λ κs. (LL.tells N.the-type N′.the-laws, (shr-slice-tells (named 0) (κs .0) S.the-row, tt)))
+  play-walks =
+      walked 𝓤 H A play-steps.ended stayed (play-steps.clauses 𝓤 H A mem run) (WpFn 𝓤 H (𝓣 .C) (𝓣 .Λ) code.function) (λ κs. (LL.vals N.the-type N′.the-laws, (slice-vals, tt)))
+      (λ κs. (LL.tells N.the-type N′.the-laws, (shr-slice-tells (named 0) (κs .0) S.the-row, tt)))
       (λ κs qs bounds a g are. via 𝓤 _ (fst∗ 𝓤 _ (emp 𝓤))
-      (walk 𝓤 H A W mem run (κs .0) (qs .0) (a .0) (only (LL.vals N.the-type N′.the-laws (a .0))) (a .1 .0 .ptr .0) (a .1 .0 .ptr .1) (a .1 .0 .name) (a .1 .0 .now) 𝓣 known-begun known-onward known-reach (are .0) (are .1 .0 .0 .1)))
+      (walk 𝓤 H A W mem run (κs .0) (qs .0) (a .0) (only (LL.vals N.the-type N′.the-laws (a .0))) (a .1 .0 .ptr .0)
+      (a .1 .0 .ptr .1) (a .1 .0 .name) (a .1 .0 .now) 𝓣 known-begun known-onward known-reach (are .0) (are .1 .0 .0 .1)))
 
   play-meets : Meets 𝓤 H A play-steps.signature (WpFn 𝓤 H (𝓣 .C) (𝓣 .Λ) code.function) (play-steps.spec 𝓤 H A mem run)
-  play-meets = walk-meets 𝓤 H A play-steps.ended stayed W (goes-none 𝓤 H A W 1 (λ _. N.the-row) yes (λ κs x f. refl), (goes-none-slice 𝓤 H A W 1 (0 ∷ []) tt (plain (λ _. S.the-row)) yes, tt)) (play-steps.clauses 𝓤 H A mem run) (WpFn 𝓤 H (𝓣 .C) (𝓣 .Λ) code.function) (WpFn-mono 𝓤 H (W .laws) 𝓣 code.function) play-walks
+  play-meets =
+      walk-meets 𝓤 H A play-steps.ended stayed W (goes-none 𝓤 H A W 1 (λ _. N.the-row) yes (λ κs x f. refl), (goes-none-slice 𝓤 H A W 1 (0 ∷ []) tt (plain (λ _. S.the-row)) yes, tt))
+      (play-steps.clauses 𝓤 H A mem run) (WpFn 𝓤 H (𝓣 .C) (𝓣 .Λ) code.function) (WpFn-mono 𝓤 H (W .laws) 𝓣 code.function) play-walks
 
 pub play-steps-spec : {M : Type 1} → stated.statement M
 unfolding code.routine tablesOf
