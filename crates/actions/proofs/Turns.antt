@@ -1,7 +1,7 @@
 -- What a turn does, from the turn, the process and what was decided: one law for each way. Assumes nothing.
 use mathlib.Core.Bool.{Bool, true, false, So, cond}
 use mathlib.Core.List.{List, [], _∷_}
-use mathlib.Core.Option.{none, some}
+use mathlib.Core.Option.{Option, none, some}
 use mathlib.Core.Path.{_≡_, refl, sym, _∙_, ap, subst}
 use Prim.Native.Nat.{ℕ, _+_, _-_, _*_, _≤_, _<_, min}
 use native.Mathlib.Omega.{arith}
@@ -9,7 +9,8 @@ use borrow.Author.Tests.{not-true, not-false, eq-eqb, ne-eqb, lt-ltb, le-ltb}
 use lib.ListN.{length, getD, set, take, drop, length-take, length-drop}
 use lib.Seq.{ext-getD, getD-take, getD-drop}
 use Rattle.decisions.specs.declared.Effect.{Effect}
-use Rattle.decisions.specs.Answers.{stateOf, sentOf, bornOf, runOf, arrivalOf, At}
+use Rattle.decisions.specs.Answers.{stateOf, mailOf, sentOf, bornOf, ran, arrived, answerOf}
+use Rattle.decisions.proofs.Meanings.{At, run-means, run-joins-none, arrival-means, arrival-quiet}
 use Rattle.node.proofs.Lists.{map-rising-at}
 use Rattle.node.specs.declared.Mailbox.{Mailbox}
 use Rattle.node.specs.declared.Node.{Node}
@@ -24,12 +25,12 @@ use Rattle.node.specs.Processes.{fresh}
 use Rattle.node.specs.Rows.{oldest, pushed, popped}
 use Rattle.node.specs.Values.{pid}
 use Rattle.receive.specs.declared.Received.{Received}
-use Rattle.receive.specs.Answers as receiving
+use Rattle.receive.specs.Answers.{received}
+use Rattle.receive.proofs.Laws.{received-refused, received-done}
 use Rattle.rules.specs.Answers.{refused, done}
-use Rattle.rules.specs.Arrive.{arrives}
 use Rattle.rules.specs.Effects as effects
 use Rattle.rules.specs.Nodes.{Sound, behavioursOf, code, process, mailbox, row}
-use Rattle.rules.specs.Receive.{search, receivesFit, receives}
+use Rattle.rules.specs.Receive.{Fit, search, receivesFit, receives}
 use Rattle.rules.specs.Run.{runs}
 use Rattle.rules.specs.Steps.{Action, run, arrive, owner, isUnborn, numbered, ownerBorn, signalWaits, pairHasRoom, numberFree, incoming, decide, rule}
 use Rattle.rules.specs.Values.{isNumber}
@@ -183,7 +184,7 @@ module _ (n : Node) {a : Action} (t : Decoded) (m : Means a t) where
         unfolding signalWaits
         turn-23 h = let c : row n j i .count ≡ 0 = rw row-is at h in rule-23 n a numbers awake (rw (action-is, c))
 
-        module _ (some-wait : R .count ≡ 0 → ⊥) (e : Effect) (x : Signal) (old : x ≡ oldest R) (says : (b : Mailbox) → b .count ≡ M .count → arrivalOf e b ≡ arrives i j (stateOf P b) x) where
+        module _ (some-wait : R .count ≡ 0 → ⊥) (e : Effect) (x : Signal) (old : x ≡ oldest R) (says : e ≡ arrived (t .owner) (t .from) P (M .count) x) where
           waiting : 0 < row n j i .count
           waiting = let z : row n j i .count ≡ 0 → ⊥ = rw row-is at some-wait in omega arith
 
@@ -191,26 +192,33 @@ module _ (n : Node) {a : Action} (t : Decoded) (m : Means a t) where
           unfolding signalWaits
           waits = rw action-is (lt-ltb 0 (row n j i .count) waiting)
 
-          decided : decide n a ≡ arrivalOf e M
+          -- an arrival reads no code
+          decided : decide n a ≡ answerOf [] i (stateOf P M) e
           unfolding decide
           decided =
               let q : incoming n j i ≡ x = incoming-oldest n j i waiting ∙ ap oldest (sym row-is) ∙ sym old in
-              rw (action-is, q, ← at-is) (sym (says M refl))
+              rw (action-is, q, ← at-is) (sym (arrival-means [] (t .owner) (t .from) P M x) ∙ ap (answerOf [] i (stateOf P M)) (sym says))
+
+          quiet-arrival : (e .receives ≡ false) × (e .sends ≡ false) × (e .spawns ≡ false)
+          quiet-arrival = subst (λ (z : Effect). (z .receives ≡ false) × (z .sends ≡ false) × (z .spawns ≡ false)) (sym says) (arrival-quiet (t .owner) (t .from) P (M .count) x)
 
           pub turn-refused : (e .refusal ≡ 0 → ⊥) → rule n a ≡ refused (e .refusal)
-          turn-refused h = rule-undecided n a numbers awake waits (e .refusal) (decided ∙ rw (ne-eqb (e .refusal) 0 h))
+          turn-refused h = rule-undecided n a numbers awake waits (e .refusal) (decided ∙ rw (quiet-arrival .0, ne-eqb (e .refusal) 0 h))
 
           module _ (accepted : e .refusal ≡ 0) (next : Row) (shorter : next ≡ popped R) where
+            done-arrival : decide n a ≡ done (record { process = e .process; mail = mailOf M e; sent = none; born = none })
+            done-arrival = decided ∙ rw (quiet-arrival .0, eq-eqb (e .refusal) 0 accepted, quiet-arrival .1, quiet-arrival .2)
+
             pub turn-joined : (more : Mailbox) → more ≡ joined M (e .message) → e .joins ≡ true → rule n a ≡ done (stored n (set (n .processes) (t .at) (e .process)) (set (n .mail) (t .at) more) (set (n .flight) (t .row) next))
             unfolding pairHasRoom numberFree
             turn-joined more q h =
-                rule-done n a numbers awake waits (record { process = e .process; mail = more; sent = none; born = none }) (decided ∙ rw (eq-eqb (e .refusal) 0 accepted, h, q)) refl refl
+                rule-done n a numbers awake waits (record { process = e .process; mail = more; sent = none; born = none }) (done-arrival ∙ rw (h, q)) refl refl
                 ∙ rw (action-is, commit-joined n i (e .process) j more, shorter, row-is, m .row ok arr, at-is)
 
             pub turn-dropped : e .joins ≡ false → rule n a ≡ done (stored n (set (n .processes) (t .at) (e .process)) (n .mail) (set (n .flight) (t .row) next))
             unfolding pairHasRoom numberFree
             turn-dropped h =
-                rule-done n a numbers awake waits (record { process = e .process; mail = mailbox n i; sent = none; born = none }) (decided ∙ rw (eq-eqb (e .refusal) 0 accepted, h, at-is)) refl refl
+                rule-done n a numbers awake waits (record { process = e .process; mail = mailbox n i; sent = none; born = none }) (done-arrival ∙ rw (h, at-is)) refl refl
                 ∙ rw (action-is, commit-dropped n i (e .process) j, shorter, row-is, m .row ok arr, at-is)
 
       -- ---- a run
@@ -239,10 +247,16 @@ module _ (n : Node) {a : Action} (t : Decoded) (m : Means a t) where
         stands = subst (λ (p : Process). p .stage ≡ Live → Stands n p) (sym here) (stands-in n whole i number)
 
         -- what was decided, where e says what a run of such a process does
-        module _ (e : Effect) (says : (ops : List Op) (b : Mailbox) → (P .stage ≡ Live → At ops (lengthAt n P) (P .place) (opAt n P 0)) → runOf ops i e (stateOf P b) (opAt n P 0) ≡ runs ops i (stateOf P b)) where
-          decided-run : decide n a ≡ runOf (code n B) i e (stateOf P M) (opAt n P 0)
+        module _ (e : Effect) (says : e ≡ ran (t .owner) P (lengthAt n P) (opAt n P 0)) where
+          answered : (b : Mailbox) → answerOf (code n B) i (stateOf P b) e ≡ runs (code n B) i (stateOf P b)
+          answered b = ap (answerOf (code n B) i (stateOf P b)) says ∙ run-means (code n B) (t .owner) P (lengthAt n P) (opAt n P 0) stands b
+
+          decided-run : decide n a ≡ answerOf (code n B) i (stateOf P M) e
           unfolding decide
-          decided-run = rw (run-is, ← at-is) (sym (says (code n B) M stands))
+          decided-run = rw (run-is, ← at-is) (sym (answered M))
+
+          joinless : e .joins ≡ false
+          joinless = ap (λ (z : Effect). z .joins) says ∙ run-joins-none (code n B) (t .owner) P (lengthAt n P) (opAt n P 0) stands
 
           module _ (quiet : e .receives ≡ false) where
             pub turn-22 : (e .refusal ≡ 0 → ⊥) → rule n a ≡ refused (e .refusal)
@@ -253,7 +267,7 @@ module _ (n : Node) {a : Action} (t : Decoded) (m : Means a t) where
               effect = record { process = e .process; mail = M; sent = sentOf e; born = bornOf i e }
 
               done-run : decide n a ≡ done effect
-              done-run = decided-run ∙ rw (quiet, eq-eqb (e .refusal) 0 accepted)
+              done-run = decided-run ∙ rw (quiet, eq-eqb (e .refusal) 0 accepted, joinless)
 
               keeps : Keeps (behavioursOf n) (owner a) effect
               keeps = decided-keeps n a effect whole numbers waits-run done-run
@@ -338,25 +352,32 @@ module _ (n : Node) {a : Action} (t : Decoded) (m : Means a t) where
           module _ (waits-for : e .receives ≡ true) where
             at-recv : AtRecv (code n B) i (stateOf P noMailbox)
             unfolding receives messages
-            at-recv = only-recv (code n B) i (stateOf P noMailbox) (sym (says (code n B) noMailbox stands) ∙ rw waits-for)
+            at-recv = only-recv (code n B) i (stateOf P noMailbox) (sym (answered noMailbox) ∙ rw waits-for)
+
+            here-op : getD (code n B) (P .place) noOp ≡ opAt n P 0
+            here-op = stands (at-recv .live) .op (at-recv .inside)
 
             clauses-are : take (opAt n P 0 .small) (eight n P) ≡ take (opAt n P 0 .small) (drop (P .place + 1) (code n B))
             clauses-are =
                 let r = at-recv in
-                let o = stands (r .live) .op (r .inside) in
                 let go = subst (λ (p : Process). p .stage ≡ Live → p .place < length (code n (p .behaviour .0)) → getD (code n (p .behaviour .0)) (p .place) noOp .number ≡ 10 → take (getD (code n (p .behaviour .0)) (p .place) noOp .small) (eight n p) ≡ take (getD (code n (p .behaviour .0)) (p .place) noOp .small) (drop (p .place + 1) (code n (p .behaviour .0)))) (sym here) (clauses-in n whole i number) in
-                rw o at (go (r .live) (r .inside) (r .recv))
+                rw here-op at (go (r .live) (r .inside) (r .recv))
 
-            module _ (o : Op) (op-read : o ≡ opAt n P 0) (cs : List Op) (clauses-read : cs ≡ eight n P) (g : Received) (found : receiving.answerOf g ≡ receivesFit (stateOf P M) (search (take (o .small) cs) 0 (messages M))) where
-              decided-recv : decide n a ≡ receiving.answerOf g
+            module _ (o : Op) (op-read : o ≡ opAt n P 0) (cs : List Op) (clauses-read : cs ≡ eight n P) where
+              abbrev fit : Option Fit
+              fit = search (take (o .small) cs) 0 (messages M)
+
+              decided-recv : decide n a ≡ receivesFit (stateOf P M) fit
               unfolding receives
-              decided-recv = decided-run ∙ rw (waits-for, ← clauses-are, ← op-read, ← clauses-read) (sym found)
+              decided-recv = decided-run ∙ rw (waits-for, here-op, ← clauses-are, ← op-read, ← clauses-read)
 
-              pub turn-25 : (g .refusal ≡ 0 → ⊥) → rule n a ≡ refused (g .refusal)
-              turn-25 h = rule-undecided n a numbers awake waits-run (g .refusal) (decided-recv ∙ rw (ne-eqb (g .refusal) 0 h))
+              module _ (g : Received) (found : g ≡ received (stateOf P M) fit) where
+                pub turn-25 : (g .refusal ≡ 0 → ⊥) → rule n a ≡ refused (g .refusal)
+                turn-25 h = rule-undecided n a numbers awake waits-run (g .refusal) (decided-recv ∙ received-refused (stateOf P M) g fit found h)
 
-              pub turn-received : g .refusal ≡ 0 → rule n a ≡ done (stored n (set (n .processes) (t .at) (g .process)) (set (n .mail) (t .at) (g .mail)) (n .flight))
-              unfolding pairHasRoom numberFree
-              turn-received h =
-                  rule-done n a numbers awake waits-run (record { process = g .process; mail = g .mail; sent = none; born = none }) (decided-recv ∙ rw (eq-eqb (g .refusal) 0 h)) refl refl
-                  ∙ rw (run-is, at-is) (ap done (commit-received n i (g .process) (g .mail)))
+                pub turn-received : g .refusal ≡ 0 → rule n a ≡ done (stored n (set (n .processes) (t .at) (g .process)) (set (n .mail) (t .at) (g .mail)) (n .flight))
+                unfolding pairHasRoom numberFree
+                turn-received h =
+                    let effect : effects.Effect = record { process = g .process; mail = g .mail; sent = none; born = none } in
+                    rule-done n a numbers awake waits-run effect (decided-recv ∙ received-done (stateOf P M) g fit found h) refl refl
+                    ∙ rw (run-is, at-is) (ap done (commit-received n i (g .process) (g .mail)))

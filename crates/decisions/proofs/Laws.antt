@@ -1,24 +1,37 @@
--- Two values by whether both are integers; what the last arm of a match knows; the lowest link. Assumes nothing.
-use mathlib.Core.Bool.{true, false}
-use mathlib.Core.List.{_∷_}
+-- Two values by whether both are integers; what the last arm of a match knows; an op by its number; what is said of a process with messages; the
+-- lowest link. Assumes nothing.
+use mathlib.Core.Bool.{Bool, true, false, cond, _&&_, false≢true}
+use mathlib.Core.List.{List, [], _∷_}
 use mathlib.Core.Option.{none, some}
-use mathlib.Core.Path.{_≡_, refl, _∙_}
-use Prim.Native.Nat.{ℕ, zero, suc, _+_, _-_, _≤_, _<_}
+use mathlib.Core.Path.{_≡_, refl, sym, _∙_, ap}
+use Prim.Native.Nat.{ℕ, zero, suc, _+_, _-_, _≤_, _<_, min}
 use native.Mathlib.Numerals.{add-one}
 use native.Mathlib.Omega.{arith}
+use borrow.Author.Tests.{ltb-true, ltb-false, lt-leb, le-leb, lt-ltb, le-ltb}
+use lib.Dec.{ltb}
 use lib.IntN.{ℤ}
-use lib.ListN.{getD, drop, drop-of-length-le}
-use lib.Seq.{drop-cons}
+use lib.ListN.{length, getD, set, replicate, drop, length-set, length-replicate, drop-of-length-le, List·getD-eq-default}
+use lib.Seq.{drop-cons, getD-set-same}
+use Rattle.node.specs.declared.Message.{Message}
+use Rattle.node.specs.declared.Op.{Op}
 use Rattle.node.specs.declared.Process.{Process}
-use Rattle.node.specs.Processes.{linksTo}
+use Rattle.node.specs.declared.ProcessNumber.{ProcessNumber}
+use Rattle.node.specs.declared.Signal.{Signal}
+use Rattle.node.specs.declared.Stage.{Stage}
+use Rattle.node.specs.Mailboxes.{noMessage, emptyMailbox, messages, joined}
+use Rattle.node.specs.Nodes.{noOp}
+use Rattle.node.specs.Processes.{register, linksTo, ended}
 use Rattle.node.specs.declared.Value.{Value}
 use Rattle.node.specs.declared.Value.the-variants.{Int, Atom, Pid}
-use Rattle.node.specs.Values.{badarg, badarith}
-use Rattle.rules.specs.Effects.{State, ends}
-use Rattle.rules.specs.Run.{adds, compares, lowest}
+use Rattle.node.specs.Values.{normal, badarg, badarith}
+use Rattle.rules.specs.Answers.{Answer}
+use Rattle.rules.specs.Arrive.{joinsWith, arrivesIn, arrives}
+use Rattle.rules.specs.Effects.{State, Effect, becomes, ends}
+use Rattle.rules.specs.Receive.{receives}
+use Rattle.rules.specs.Run.{adds, compares, opTable, runsOp, runsLive, runsIn, runs, lowest}
 use Rattle.rules.specs.Values.{numbers}
 use Rattle.rules.proofs.All.{rising-at}
-use Rattle.decisions.specs.Answers.{integersOf}
+use Rattle.decisions.specs.Answers.{unread, tells, refusesEffect, becomesEffect, effectOf, says, ranOp, codeAt, ran, arrived, integersOf}
 use Rattle.decisions.specs.declared.Pair.the-variants.{Not, Both}
 
 module _ (st : State) (r : ℕ) where
@@ -56,6 +69,76 @@ Past (suc k) n = Past k n × (n ≡ k → ⊥)
 pub past : (k n : ℕ) → Past k n → k ≤ n
 past zero n h = omega arith
 past (suc k) n h = let l : k ≤ n = past k n (h .0) in let d : n ≡ k → ⊥ = h .1 in omega arith
+
+-- ---- an op by its number
+
+module _ (i : ProcessNumber) (p : Process) (o : Op) where
+  -- op k of the table; past it an op is stop
+  abbrev pub entry : ℕ → State → Answer Effect
+  entry k st = getD (opTable [] (i .0) st o) k (ends st (register (st .process) (o .r)))
+
+  pub ran-at : (k : ℕ) → o .number ≡ k → says p 0 (entry k) ≡ ranOp i p o
+  unfolding ranOp runsOp
+  ran-at k e = ap (λ (j : ℕ). says p 0 (entry j)) (sym e)
+
+  pub ran-stop : 15 ≤ o .number → says p 0 (λ st. ends st (register (st .process) (o .r))) ≡ ranOp i p o
+  ran-stop h =
+      let st = unread p 0 in
+      ap (effectOf st) (sym (List·getD-eq-default (opTable [] (i .0) st o) (ends st (register p (o .r))) {n = o .number} h)) ∙ ran-at (o .number) refl
+
+-- ---- a run by the stage, and at a place
+
+module _ (p : Process) (len : ℕ) (o : Op) where
+  abbrev ops : List Op
+  ops = codeAt len (p .place) o
+
+  pub ops-length : length ops ≡ len
+  ops-length = length-set (replicate len noOp) (p .place) o ∙ length-replicate len noOp
+
+  pub ops-op : p .place < len → getD ops (p .place) noOp ≡ o
+  ops-op h = getD-set-same (replicate len noOp) (p .place) o noOp (rw length-replicate h)
+
+module _ (i : ProcessNumber) (p : Process) (len : ℕ) (o : Op) where
+  pub at-stage : {s : Stage} → p .stage ≡ s → says p 0 (runsIn s (ops p len o) (i .0)) ≡ ran i p len o
+  unfolding ran runs
+  at-stage e = sym (ap (λ (s : Stage). says p 0 (runsIn s (ops p len o) (i .0))) e)
+
+  pub live-end : len ≤ p .place → becomesEffect (ended p normal) ≡ says p 0 (runsLive (ops p len o) (i .0))
+  unfolding runsLive
+  live-end h = rw (ops-length p len o, le-leb len (p .place) h)
+
+  pub live-op : p .place < len → ranOp i p o ≡ says p 0 (runsLive (ops p len o) (i .0))
+  unfolding ranOp runsLive runsOp receives messages
+  live-op h = rw (ops-length p len o, lt-leb len (p .place) h, ops-op p len o h)
+
+-- ---- a process whose mailbox holds k messages
+
+module _ (p q : Process) (k : ℕ) where
+  pub says-becomes : becomesEffect q ≡ says p k (λ st. becomes st q)
+  says-becomes = rw (le-ltb k k (omega arith))
+
+  pub says-joins : (x : Message) → k < 16 → tells 0 q false (some x) none none ≡ says p k (λ st. joinsWith st q x)
+  unfolding joined
+  says-joins x h =
+      let l : k < min (k + 1) 255 = omega arith in
+      rw (lt-ltb k 16 h, lt-ltb k (min (k + 1) 255) l, getD-set-same (emptyMailbox .slots) k (record { message = x }) noMessage h)
+
+  pub says-full : (x : Message) → 16 ≤ k → refusesEffect p 24 ≡ says p k (λ st. joinsWith st q x)
+  says-full x h = rw (le-ltb k 16 h)
+
+-- a process that becomes q where b holds and message x has room, which q is then said of; else p
+module _ (p q : Process) (k : ℕ) (x : Message) where
+  pub note-leaves : (b : Bool) → (b && ltb k 16) ≡ true → says q k (λ st. joinsWith st q x) ≡ says p k (λ st. joinsWith st (cond b q p) x)
+  note-leaves true e = let h = ltb-true k 16 e in sym (says-joins q q k x h) ∙ says-joins p q k x h
+  note-leaves false e = absurd (false≢true e)
+
+  pub note-stays : (b : Bool) → (b && ltb k 16) ≡ false → says p k (λ st. joinsWith st p x) ≡ says p k (λ st. joinsWith st (cond b q p) x)
+  note-stays true e = let h = ltb-false k 16 e in sym (says-full p p k x h) ∙ says-full p q k x h
+  note-stays false e = refl
+
+pub comes-at : (i j : ProcessNumber) (p : Process) (k : ℕ) (x : Signal) {s : Stage} → p .stage ≡ s → says p k (λ st. arrivesIn s (i .0) (j .0) st x) ≡ arrived i j p k x
+unfolding arrived arrives
+comes-at i j p k x e = sym (ap (λ (s : Stage). says p k (λ st. arrivesIn s (i .0) (j .0) st x)) e)
 
 -- ---- the lowest link
 

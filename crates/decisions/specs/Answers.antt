@@ -1,18 +1,25 @@
--- What the answers of this crate mean in the rules of document 01.
---   runOf code i e st o   the answer that e is for a run of process i at op o: a refusal, or an effect of the rules
---   arrivalOf e m         the same for an arrival at a process with mailbox m
---   Says i e p f          effect e says of process p what rule f says
---   At code len t o       the code has len ops, and op o at place t
-use mathlib.Core.Bool.{true, false, cond}
-use mathlib.Core.List.{List}
-use mathlib.Core.Option.{Option, none, some}
-use mathlib.Core.Path.{_≡_}
-use Prim.Native.Nat.{ℕ, _<_}
-use lib.Dec.{eqb}
+-- What the answers of this crate mean in the rules of document 01. A decision reads the process, and of its mailbox only how many messages it
+-- holds; it answers with a record of the code, each part of which stands behind a flag.
+--   unread p k             what a decision knows of its owner: process p, with a mailbox of k messages that are not looked at
+--   tells ..               the record that tells a refusal (0 if none), the next process, whether the mailbox is to be searched, which message
+--                          joins, what is sent and who is brought to life; where there is none of these, its fields are blank
+--   effectOf st a          the record that tells answer a of the rules, of a process in state st
+--   says p k f             the record that tells what rule f answers for process p with k messages
+--   ranOp i p o            what a run of process i at op o says
+--   ran i p len o          what a run of process i, whose code has len ops and which is at op o, says
+--   arrived i j p k x      what the arrival of signal x from j says
+--   answerOf code i st e   the rules' answer that record e tells of process i, in state st and with its code: of a run and of an arrival
+-- And of two private functions:
+--   sumOf z, integersOf v w
+use mathlib.Core.Bool.{Bool, true, false, cond}
+use mathlib.Core.List.{List, []}
+use mathlib.Core.Option.{Option, none, some, Option·getD}
+use Prim.Native.Nat.{ℕ}
+use lib.Dec.{eqb, ltb}
 use lib.IntN.{ℤ}
-use lib.ListN.{length, getD}
+use lib.ListN.{getD, set, replicate}
 use Rattle.node.specs.declared.Mailbox.{Mailbox}
-use Rattle.node.specs.declared.Message.the-variants.{Plain}
+use Rattle.node.specs.declared.Message.{Message}
 use Rattle.node.specs.declared.Op.{Op}
 use Rattle.node.specs.declared.Process.{Process}
 use Rattle.node.specs.declared.ProcessNumber.{ProcessNumber}
@@ -20,14 +27,16 @@ use Rattle.node.specs.declared.Signal.{Signal}
 use Rattle.node.specs.declared.Signal.the-variants.{Link}
 use Rattle.node.specs.declared.Value.{Value}
 use Rattle.node.specs.declared.Value.the-variants.{Int, Atom, Pid}
-use Rattle.node.specs.Mailboxes.{joined}
-use Rattle.node.specs.Nodes.{noOp}
+use Rattle.node.specs.Mailboxes.{noMessage, emptyMailbox, joined}
+use Rattle.node.specs.Nodes.{noOp, noProcess}
 use Rattle.node.specs.Processes.{fresh}
 use Rattle.node.specs.Values.{intZero, pid}
-use Rattle.rules.specs.Answers.{Answer, refused, done}
+use Rattle.rules.specs.Answers.{Answer, refused, done, noFit}
+use Rattle.rules.specs.Arrive.{arrives}
 use Rattle.rules.specs.Effects.{State, Sending, Birth}
 use Rattle.rules.specs.Effects as effects
 use Rattle.rules.specs.Receive.{receives}
+use Rattle.rules.specs.Run.{runs, runsOp}
 use Rattle.rules.specs.Values.{fitsInt}
 use Rattle.decisions.specs.declared.Pair.{Pair}
 use Rattle.decisions.specs.declared.Pair.the-variants.{Not, Both}
@@ -37,15 +46,96 @@ use Rattle.decisions.specs.declared.Effect.{Effect}
 abbrev pub stateOf : Process → Mailbox → State
 stateOf p m = record { process = p; mail = m }
 
--- the effect that refuses with k, or changes nothing but the process where k is 0
+abbrev pub unread : Process → ℕ → State
+unread p k = stateOf p (record { slots = emptyMailbox .slots; count = k })
+
+-- ---- the record
+
+abbrev pub isSome : {A : Type 0} → Option A → Bool
+isSome none = false
+isSome (some x) = true
+
+-- what the fields hold where nothing is sent and nobody is brought to life
+abbrev pub noSending : Sending
+noSending = record { to = 0; signal = Link }
+
+abbrev pub noBirth : Birth
+noBirth = record { number = 0; process = noProcess }
+
+abbrev pub tells : ℕ → Process → Bool → Option Message → Option Sending → Option Birth → Effect
+tells k p searches joins sent born = record {
+  refusal = k;
+  process = p;
+  receives = searches;
+  joins = isSome joins;
+  message = Option·getD joins (noMessage .message);
+  sends = isSome sent;
+  to = record { 0 = Option·getD sent noSending .to };
+  signal = Option·getD sent noSending .signal;
+  spawns = isSome born;
+  number = record { 0 = Option·getD born noBirth .number };
+  behaviour = Option·getD born noBirth .process .behaviour;
+}
+
+-- the process is as it was where the answer is a refusal
 abbrev pub refusesEffect : Process → ℕ → Effect
-refusesEffect p k = record { refusal = k; process = p; receives = false; joins = false; message = Plain intZero; sends = false; to = record { 0 = 0 }; signal = Link; spawns = false; number = record { 0 = 0 }; behaviour = record { 0 = 0 } }
+refusesEffect p k = tells k p false none none none
 
 abbrev pub becomesEffect : Process → Effect
-becomesEffect p = refusesEffect p 0
+becomesEffect p = tells 0 p false none none none
+
+abbrev pub searchesEffect : Process → Effect
+searchesEffect p = tells 0 p true none none none
 
 abbrev pub sendsEffect : Process → ProcessNumber → Signal → Effect
-sendsEffect p j x = record { refusal = 0; process = p; receives = false; joins = false; message = Plain intZero; sends = true; to = j; signal = x; spawns = false; number = record { 0 = 0 }; behaviour = record { 0 = 0 } }
+sendsEffect p j x = tells 0 p false none (some (record { to = j .0; signal = x })) none
+
+-- the message that joined: the mailbox has one more than k, and it stands behind them
+abbrev pub newest : ℕ → Mailbox → Option Message
+newest k m = cond (ltb k (m .count)) (some (getD (m .slots) k noMessage .message)) none
+
+-- "recv without a fit": where no message was looked at, 25 says that the mailbox is still to be searched
+abbrev pub effectOf : State → Answer effects.Effect → Effect
+effectOf st (refused k) = cond (eqb k noFit) (searchesEffect (st .process)) (refusesEffect (st .process) k)
+effectOf st (done x) = tells 0 (x .process) false (newest (st .mail .count) (x .mail)) (x .sent) (x .born)
+
+abbrev pub says : Process → ℕ → (State → Answer effects.Effect) → Effect
+says p k f = effectOf (unread p k) (f (unread p k))
+
+-- ---- the decisions
+
+-- only a recv reads the code, for a message that it looks at
+unfoldable pub ranOp : ProcessNumber → Process → Op → Effect
+ranOp i p o = says p 0 (λ st. runsOp [] (i .0) st o)
+
+-- a code of len ops, with o at place t
+abbrev pub codeAt : ℕ → ℕ → Op → List Op
+codeAt len t o = set (replicate len noOp) t o
+
+unfoldable pub ran : ProcessNumber → Process → ℕ → Op → Effect
+ran i p len o = says p 0 (λ st. runs (codeAt len (p .place) o) (i .0) st)
+
+unfoldable pub arrived : ProcessNumber → ProcessNumber → Process → ℕ → Signal → Effect
+arrived i j p k x = says p k (λ st. arrives (i .0) (j .0) st x)
+
+-- ---- the answer that a record tells
+
+abbrev pub mailOf : Mailbox → Effect → Mailbox
+mailOf m e = cond (e .joins) (joined m (e .message)) m
+
+abbrev pub sentOf : Effect → Option Sending
+sentOf e = cond (e .sends) (some (record { to = e .to .0; signal = e .signal })) none
+
+abbrev pub bornOf : ℕ → Effect → Option Birth
+bornOf i e = cond (e .spawns) (some (record { number = e .number .0; process = fresh (e .behaviour) (pid i) })) none
+
+abbrev pub answerOf : List Op → ℕ → State → Effect → Answer effects.Effect
+answerOf code i st e =
+    cond (e .receives) (receives code st (getD code (st .process .place) noOp))
+    (cond (eqb (e .refusal) 0) (done (record { process = e .process; mail = mailOf (st .mail) e; sent = sentOf e; born = bornOf i e }))
+    (refused (e .refusal)))
+
+-- ---- two integers
 
 -- the sum z of two integers, where it is one too
 abbrev pub sumOf : ℤ → Sum
@@ -58,31 +148,3 @@ integersOf (Int x) (Atom b) = Not
 integersOf (Int x) (Pid b) = Not
 integersOf (Atom a) w = Not
 integersOf (Pid a) w = Not
-
-abbrev pub sentOf : Effect → Option Sending
-sentOf e = cond (e .sends) (some (record { to = e .to .0; signal = e .signal })) none
-
-abbrev pub bornOf : ℕ → Effect → Option Birth
-bornOf i e = cond (e .spawns) (some (record { number = e .number .0; process = fresh (e .behaviour) (pid i) })) none
-
--- a run touches no mailbox, but for a recv, which is still to be searched
-abbrev pub runOf : List Op → ℕ → Effect → State → Op → Answer effects.Effect
-runOf code i e st o =
-    cond (e .receives) (receives code st o)
-    (cond (eqb (e .refusal) 0) (done (record { process = e .process; mail = st .mail; sent = sentOf e; born = bornOf i e }))
-    (refused (e .refusal)))
-
--- an arrival sends nothing and brings nobody to life
-abbrev pub arrivalOf : Effect → Mailbox → Answer effects.Effect
-arrivalOf e m =
-    cond (eqb (e .refusal) 0) (done (record { process = e .process; mail = cond (e .joins) (joined m (e .message)) m; sent = none; born = none }))
-    (refused (e .refusal))
-
--- whatever its mailbox, effect e says of process p, whose number is i, what rule f says of its state; it does not receive
-abbrev pub Says : ℕ → Effect → Process → (State → Answer effects.Effect) → Type 0
-Says i e p f = (code : List Op) (o : Op) (m : Mailbox) → runOf code i e (stateOf p m) o ≡ f (stateOf p m)
-
--- the code has len ops, and o stands at place t where t is not its end
-pub record At (code : List Op) (len t : ℕ) (o : Op) : Type 0 where
-  pub size : length code ≡ len
-  pub op : t < length code → getD code t noOp ≡ o

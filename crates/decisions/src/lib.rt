@@ -1,22 +1,19 @@
 // The local decision of a step: what a process does at a run or at an arrival, from small values alone.
 ghost use mathlib.Core.Path.{_≡_};
-ghost use mathlib.Core.List.{List};
-ghost use mathlib.Core.Bool.{true, false, not, _&&_};
+ghost use mathlib.Core.Bool.{false, not, _&&_};
 ghost use Prim.Native.Nat.{ℕ};
 ghost use lib.Dec.{eqb};
 ghost use lib.IntN.{_+ℤ_};
-ghost use Rattle.node.specs.declared.Mailbox.{Mailbox};
-ghost use Rattle.node.specs.declared.Op.{Op};
-ghost use Rattle.node.specs.declared.Stage.the-variants.{Live};
 ghost use Rattle.node.specs.declared.Signal.the-variants.{Msg, Exit, Link, Unlink};
 ghost use Rattle.node.specs.declared.Value.the-variants.{Int};
 ghost use Rattle.node.specs.Processes.{register, moved, advanced, trapped, linked, unlinked, ended};
 ghost use Rattle.node.specs.Values.{pid, normal, badarg};
 ghost use Rattle.rules.specs.Effects.{becomes, ends, sends};
-ghost use Rattle.rules.specs.Run.{setsRegister, jumpsIf, adds, compares, toProcess, toOther, spawns, runsOp, closes, runsLive, runs};
-ghost use Rattle.rules.specs.Arrive.{joinsWith, notes, exits, takes, arrives};
+ghost use Rattle.rules.specs.Run.{setsRegister, jumpsIf, adds, compares, toProcess, toOther, spawns, closes, runsLive};
+ghost use Rattle.rules.specs.Arrive.{joinsWith, notes, exits, takes};
 ghost use Rattle.rules.specs.Values.{sameValue};
-ghost use Rattle.decisions.specs.Answers.{stateOf, refusesEffect, becomesEffect, sendsEffect, runOf, arrivalOf, Says, At, sumOf, integersOf};
+ghost use Rattle.decisions.specs.Answers.{refusesEffect, becomesEffect, searchesEffect, sendsEffect, says, codeAt};
+ghost use Rattle.decisions.specs.Answers.{ranOp, ran, arrived, sumOf, integersOf};
 use node::BehaviourNumber;
 use node::Message;
 use node::Op;
@@ -92,21 +89,21 @@ impl Effect {
 // ---- the ops, each by its number
 
 fn run_set(p: Process, op: Op) -> Effect
-    ensures { λ e. ⌜ ((i : ℕ) → Says i e p (λ st. setsRegister st (op .r) (op .value))) ⌝ }
+    ensures { λ e. ⌜ e ≡ says p 0 (λ st. setsRegister st (op .r) (op .value)) ⌝ }
 {
     let v = op.value;
     Effect::becomes(p.with_register(op.r, v).advanced())
 }
 
 fn run_copy(p: Process, op: Op) -> Effect
-    ensures { λ e. ⌜ ((i : ℕ) → Says i e p (λ st. setsRegister st (op .r) (register p (op .s)))) ⌝ }
+    ensures { λ e. ⌜ e ≡ says p 0 (λ st. setsRegister st (op .r) (register p (op .s))) ⌝ }
 {
     let v = p.register(op.s);
     Effect::becomes(p.with_register(op.r, v).advanced())
 }
 
 fn run_self(i: ProcessNumber, p: Process, op: Op) -> Effect
-    ensures { λ e. ⌜ ((k : ℕ) → Says k e p (λ st. setsRegister st (op .r) (pid (i .0)))) ⌝ }
+    ensures { λ e. ⌜ e ≡ says p 0 (λ st. setsRegister st (op .r) (pid (i .0))) ⌝ }
 {
     Effect::becomes(p.with_register(op.r, Value::Pid(i)).advanced())
 }
@@ -142,7 +139,7 @@ fn total_of(x: i32, y: i32) -> Sum
 
 // Two integers whose sum is one go to register r; anything else ends the process.
 fn add(p: Process, r: u8, x: i32, y: i32) -> Effect
-    ensures { λ e. ⌜ ((i : ℕ) → Says i e p (λ st. adds st r (Int x) (Int y))) ⌝ }
+    ensures { λ e. ⌜ e ≡ says p 0 (λ st. adds st r (Int x) (Int y)) ⌝ }
 {
     let s = total_of(x, y);
     let fits = s.fits;
@@ -174,7 +171,7 @@ fn integers(v: Value, w: Value) -> Pair
 }
 
 fn run_add(p: Process, op: Op) -> Effect
-    ensures { λ e. ⌜ ((i : ℕ) → Says i e p (λ st. adds st (op .r) (register p (op .r)) (register p (op .s)))) ⌝ }
+    ensures { λ e. ⌜ e ≡ says p 0 (λ st. adds st (op .r) (register p (op .r)) (register p (op .s))) ⌝ }
 {
     let v = p.register(op.r);
     let w = p.register(op.s);
@@ -194,7 +191,7 @@ fn end_badarg(p: Process) -> Effect
 
 // A signal to the process that v names; where it names none the process ends.
 fn send_to(p: Process, v: Value, x: Signal) -> Effect
-    ensures { λ e. ⌜ ((i : ℕ) → Says i e p (λ st. toProcess st v (λ j. sends st (advanced p) j x))) ⌝ }
+    ensures { λ e. ⌜ e ≡ says p 0 (λ st. toProcess st v (λ j. sends st (advanced p) j x)) ⌝ }
 {
     match v {
         Value::Int(_) => end_badarg(p),
@@ -204,7 +201,7 @@ fn send_to(p: Process, v: Value, x: Signal) -> Effect
 }
 
 fn run_send(p: Process, op: Op) -> Effect
-    ensures { λ e. ⌜ ((i : ℕ) → Says i e p (λ st. toProcess st (register p (op .r)) (λ j. sends st (advanced p) j (Msg (register p (op .s)))))) ⌝ }
+    ensures { λ e. ⌜ e ≡ says p 0 (λ st. toProcess st (register p (op .r)) (λ j. sends st (advanced p) j (Msg (register p (op .s))))) ⌝ }
 {
     let v = p.register(op.r);
     let w = p.register(op.s);
@@ -212,7 +209,7 @@ fn run_send(p: Process, op: Op) -> Effect
 }
 
 fn run_exit(p: Process, op: Op) -> Effect
-    ensures { λ e. ⌜ ((i : ℕ) → Says i e p (λ st. toProcess st (register p (op .r)) (λ j. sends st (advanced p) j (Exit (register p (op .s)) false)))) ⌝ }
+    ensures { λ e. ⌜ e ≡ says p 0 (λ st. toProcess st (register p (op .r)) (λ j. sends st (advanced p) j (Exit (register p (op .s)) false))) ⌝ }
 {
     let v = p.register(op.r);
     let w = p.register(op.s);
@@ -220,7 +217,7 @@ fn run_exit(p: Process, op: Op) -> Effect
 }
 
 fn run_link(i: ProcessNumber, p: Process, op: Op) -> Effect
-    ensures { λ e. ⌜ Says (i .0) e p (λ st. toProcess st (register p (op .r)) (λ j. toOther (i .0) st j (sends st (advanced (linked p j)) j Link))) ⌝ }
+    ensures { λ e. ⌜ e ≡ says p 0 (λ st. toProcess st (register p (op .r)) (λ j. toOther (i .0) st j (sends st (advanced (linked p j)) j Link))) ⌝ }
 {
     let v = p.register(op.r);
     match v {
@@ -236,7 +233,7 @@ fn run_link(i: ProcessNumber, p: Process, op: Op) -> Effect
 }
 
 fn run_unlink(i: ProcessNumber, p: Process, op: Op) -> Effect
-    ensures { λ e. ⌜ Says (i .0) e p (λ st. toProcess st (register p (op .r)) (λ j. toOther (i .0) st j (sends st (advanced (unlinked p j)) j Unlink))) ⌝ }
+    ensures { λ e. ⌜ e ≡ says p 0 (λ st. toProcess st (register p (op .r)) (λ j. toOther (i .0) st j (sends st (advanced (unlinked p j)) j Unlink))) ⌝ }
 {
     let v = p.register(op.r);
     match v {
@@ -252,14 +249,14 @@ fn run_unlink(i: ProcessNumber, p: Process, op: Op) -> Effect
 }
 
 fn run_trap(p: Process, op: Op) -> Effect
-    ensures { λ e. ⌜ ((i : ℕ) → Says i e p (λ st. becomes st (advanced (trapped p (eqb (op .small) 1))))) ⌝ }
+    ensures { λ e. ⌜ e ≡ says p 0 (λ st. becomes st (advanced (trapped p (eqb (op .small) 1)))) ⌝ }
 {
     let f = op.small;
     Effect::becomes(p.trapped(f == 1).advanced())
 }
 
 fn run_spawn(p: Process, op: Op) -> Effect
-    ensures { λ e. ⌜ ((i : ℕ) → Says i e p (λ st. spawns i st op)) ⌝ }
+    ensures { λ e. ⌜ ((i : ℕ) → e ≡ says p 0 (λ st. spawns i st op)) ⌝ }
 {
     let q = op.process;
     let b = op.behaviour;
@@ -281,7 +278,7 @@ fn run_spawn(p: Process, op: Op) -> Effect
 
 // The search itself needs the mailbox and the clauses, so a recv only says that it is due.
 fn run_recv(p: Process) -> Effect
-    ensures { λ e. ⌜ e .receives ≡ true ⌝ }
+    ensures { λ e. ⌜ e ≡ searchesEffect p ⌝ }
 {
     Effect {
         refusal: 0,
@@ -299,20 +296,20 @@ fn run_recv(p: Process) -> Effect
 }
 
 fn run_clause(p: Process) -> Effect
-    ensures { λ e. ⌜ ((i : ℕ) → Says i e p (λ st. becomes st (advanced p))) ⌝ }
+    ensures { λ e. ⌜ e ≡ says p 0 (λ st. becomes st (advanced p)) ⌝ }
 {
     Effect::becomes(p.advanced())
 }
 
 fn run_jump(p: Process, op: Op) -> Effect
-    ensures { λ e. ⌜ ((i : ℕ) → Says i e p (λ st. becomes st (moved p (op .target)))) ⌝ }
+    ensures { λ e. ⌜ e ≡ says p 0 (λ st. becomes st (moved p (op .target))) ⌝ }
 {
     Effect::becomes(p.moved(op.target))
 }
 
 // To place t where b holds, else on.
 fn jump_if(p: Process, b: bool, t: u8) -> Effect
-    ensures { λ e. ⌜ ((i : ℕ) → Says i e p (λ st. jumpsIf st b t)) ⌝ }
+    ensures { λ e. ⌜ e ≡ says p 0 (λ st. jumpsIf st b t) ⌝ }
 {
     if b {
         return Effect::becomes(p.moved(t));
@@ -321,7 +318,7 @@ fn jump_if(p: Process, b: bool, t: u8) -> Effect
 }
 
 fn run_same(p: Process, op: Op) -> Effect
-    ensures { λ e. ⌜ ((i : ℕ) → Says i e p (λ st. jumpsIf st (sameValue (register p (op .r)) (op .value)) (op .target))) ⌝ }
+    ensures { λ e. ⌜ e ≡ says p 0 (λ st. jumpsIf st (sameValue (register p (op .r)) (op .value)) (op .target)) ⌝ }
 {
     let v = p.register(op.r);
     let w = op.value;
@@ -330,7 +327,7 @@ fn run_same(p: Process, op: Op) -> Effect
 }
 
 fn run_less(p: Process, op: Op) -> Effect
-    ensures { λ e. ⌜ ((i : ℕ) → Says i e p (λ st. compares st (op .target) (register p (op .r)) (register p (op .s)))) ⌝ }
+    ensures { λ e. ⌜ e ≡ says p 0 (λ st. compares st (op .target) (register p (op .r)) (register p (op .s))) ⌝ }
 {
     let v = p.register(op.r);
     let w = p.register(op.s);
@@ -342,7 +339,7 @@ fn run_less(p: Process, op: Op) -> Effect
 }
 
 fn run_stop(p: Process, op: Op) -> Effect
-    ensures { λ e. ⌜ ((i : ℕ) → Says i e p (λ st. ends st (register p (op .r)))) ⌝ }
+    ensures { λ e. ⌜ e ≡ says p 0 (λ st. ends st (register p (op .r))) ⌝ }
 {
     let v = p.register(op.r);
     Effect::becomes(p.ended(v))
@@ -350,7 +347,7 @@ fn run_stop(p: Process, op: Op) -> Effect
 
 // The op decides.
 pub fn run_op(i: ProcessNumber, p: Process, op: Op) -> Effect
-    ensures { λ e. ⌜ ((code : List Op) (m : Mailbox) → runOf code (i .0) e (stateOf p m) op ≡ runsOp code (i .0) (stateOf p m) op) ⌝ }
+    ensures { λ e. ⌜ e ≡ ranOp i p op ⌝ }
 {
     let number = op.number;
     match number {
@@ -377,7 +374,7 @@ pub fn run_op(i: ProcessNumber, p: Process, op: Op) -> Effect
 
 // Tells the lowest link and drops it; without links the process is gone.
 fn close(p: Process) -> Effect
-    ensures { λ e. ⌜ ((i : ℕ) → Says i e p closes) ⌝ }
+    ensures { λ e. ⌜ e ≡ says p 0 closes ⌝ }
 {
     let links = p.links;
     let mut k: u8 = 0;
@@ -396,7 +393,7 @@ fn close(p: Process) -> Effect
 
 // A live process whose code has len ops, at op.
 fn run_live(i: ProcessNumber, p: Process, len: u8, op: Op) -> Effect
-    ensures { λ e. ⌜ ((code : List Op) (m : Mailbox) → At code len (p .place) op → runOf code (i .0) e (stateOf p m) op ≡ runsLive code (i .0) (stateOf p m)) ⌝ }
+    ensures { λ e. ⌜ e ≡ says p 0 (λ st. runsLive (codeAt len (p .place) op) (i .0) st) ⌝ }
 {
     if len <= p.place {
         return Effect::becomes(p.ended(Value::NORMAL));
@@ -406,7 +403,7 @@ fn run_live(i: ProcessNumber, p: Process, len: u8, op: Op) -> Effect
 
 // A run of process i, whose code has len ops and which is at op.
 pub fn run(i: ProcessNumber, p: Process, len: u8, op: Op) -> Effect
-    ensures { λ e. ⌜ ((code : List Op) (m : Mailbox) → (p .stage ≡ Live → At code len (p .place) op) → runOf code (i .0) e (stateOf p m) op ≡ runs code (i .0) (stateOf p m)) ⌝ }
+    ensures { λ e. ⌜ e ≡ ran i p len op ⌝ }
 {
     let stage = p.stage;
     match stage {
@@ -430,7 +427,7 @@ fn both(a: bool, b: bool) -> bool
 
 // Message x joins a mailbox of count messages.
 fn join(p: Process, count: u8, x: Message) -> Effect
-    ensures { λ e. ⌜ ((q : Process) (m : Mailbox) → m .count ≡ count → arrivalOf e m ≡ joinsWith (stateOf q m) p x) ⌝ }
+    ensures { λ e. ⌜ e ≡ says p count (λ st. joinsWith st p x) ⌝ }
 {
     if 16 <= count {
         return Effect::refuses(p, 24);
@@ -450,11 +447,11 @@ fn join(p: Process, count: u8, x: Message) -> Effect
     }
 }
 
-// A note of j's end joins; if it came along the link, the link is over.
+// A note of j's end joins; if it came along the link, the link is over. On 24 the link stays.
 fn note(j: ProcessNumber, p: Process, count: u8, v: Value, b: bool) -> Effect
-    ensures { λ e. ⌜ ((m : Mailbox) → m .count ≡ count → arrivalOf e m ≡ notes (j .0) (stateOf p m) v b) ⌝ }
+    ensures { λ e. ⌜ e ≡ says p count (λ st. notes (j .0) st v b) ⌝ }
 {
-    if b {
+    if both(b, count < 16) {
         return join(p.unlinked(j), count, Message::Note(j, v));
     }
     join(p, count, Message::Note(j, v))
@@ -471,7 +468,7 @@ fn drops_normal(i: ProcessNumber, j: ProcessNumber, v: Value) -> bool
 
 // An exit signal from j: the first of document 01's five lines that applies.
 fn exit(i: ProcessNumber, j: ProcessNumber, p: Process, count: u8, v: Value, b: bool) -> Effect
-    ensures { λ e. ⌜ ((m : Mailbox) → m .count ≡ count → arrivalOf e m ≡ exits (i .0) (j .0) (stateOf p m) v b) ⌝ }
+    ensures { λ e. ⌜ e ≡ says p count (λ st. exits (i .0) (j .0) st v b) ⌝ }
 {
     let linked = p.links_to(j);
     if both(b, !linked) {
@@ -493,7 +490,7 @@ fn exit(i: ProcessNumber, j: ProcessNumber, p: Process, count: u8, v: Value, b: 
 
 // What a live process does with a signal from j.
 fn take(i: ProcessNumber, j: ProcessNumber, p: Process, count: u8, x: Signal) -> Effect
-    ensures { λ e. ⌜ ((m : Mailbox) → m .count ≡ count → arrivalOf e m ≡ takes (i .0) (j .0) (stateOf p m) x) ⌝ }
+    ensures { λ e. ⌜ e ≡ says p count (λ st. takes (i .0) (j .0) st x) ⌝ }
 {
     match x {
         Signal::Msg(v) => join(p, count, Message::Plain(v)),
@@ -505,11 +502,11 @@ fn take(i: ProcessNumber, j: ProcessNumber, p: Process, count: u8, x: Signal) ->
 
 // The arrival at process i, whose mailbox has count messages, of signal x from j.
 pub fn arrive(i: ProcessNumber, j: ProcessNumber, p: Process, count: u8, x: Signal) -> Effect
-    ensures { λ e. ⌜ ((m : Mailbox) → m .count ≡ count → arrivalOf e m ≡ arrives (i .0) (j .0) (stateOf p m) x) ⌝ }
+    ensures { λ e. ⌜ e ≡ arrived i j p count x ⌝ }
 {
     let stage = p.stage;
     match stage {
-        Stage::Unborn => Effect::refuses(p, 21),
+        Stage::Unborn => Effect::refuses(p, 21), // the signal waits in its row
         Stage::Live => take(i, j, p, count, x),
         Stage::Closing => Effect::becomes(p),
         Stage::Gone => Effect::becomes(p),

@@ -1,11 +1,12 @@
 // Receiving: the search of a mailbox for the first message that a clause takes, and what a recv does with it.
+ghost use mathlib.Core.Option.{some};
 ghost use mathlib.Core.Path.{_≡_};
 ghost use lib.ListN.{take, getD};
 ghost use Rattle.node.specs.Mailboxes.{messages};
 ghost use Rattle.node.specs.Nodes.{noOp};
 ghost use Rattle.rules.specs.Values.{sameValue};
-ghost use Rattle.rules.specs.Receive.{fits, search, kept, receivesFit};
-ghost use Rattle.receive.specs.Answers.{fitOf, answerOf, stateOf};
+ghost use Rattle.rules.specs.Receive.{fits, search, kept};
+ghost use Rattle.receive.specs.Answers.{searchAt, foundOf, stateOf, fitAt, received};
 use node::Mailbox;
 use node::Message;
 use node::Op;
@@ -74,22 +75,22 @@ pub fn fits(c: Op, m: Message) -> bool
 
 // The first message, in mailbox order, that one of the first n clauses takes, and for it the first such clause.
 pub fn search(clauses: [Op; 8], n: u8, mail: Mailbox) -> Found
-    ensures { λ r. ⌜ fitOf clauses mail r ≡ search (take n clauses) 0 (messages mail) ⌝ }
+    ensures { λ r. ⌜ foundOf r ≡ searchAt (take n clauses) 0 (messages mail) ⌝ }
 {
     let count = mail.count;
     let mut found = Found::Nothing;
     let mut i: u8 = 0;
     'messages: while i < count {
-        // Read in place: a call of `message_at` would copy the mailbox for each message.
-        let mut m = Message::Plain(Value::ZERO);
-        if i < 16 {
-            let x = i as usize;
-            let slot = mail.slots[x];
-            m = slot.message;
-        }
         let mut k: u8 = 0;
         // There are 8 clauses at most. The bound stands inside: the compiler then leaves them where they are, which is faster for few.
         while k < n {
+            // Read in place: a call of `message_at` would copy the mailbox for each message.
+            let mut m = Message::Plain(Value::ZERO);
+            if i < 16 {
+                let x = i as usize;
+                let slot = mail.slots[x];
+                m = slot.message;
+            }
             if k < 8 {
                 let at = k as usize;
                 let c = clauses[at];
@@ -117,7 +118,7 @@ fn keep(p: Process, c: Op, m: Message) -> Process
 
 // What a recv with the first n of the clauses does.
 pub fn receive(p: Process, mail: Mailbox, clauses: [Op; 8], n: u8) -> Received
-    ensures { λ r. ⌜ answerOf r ≡ receivesFit (stateOf p mail) (search (take n clauses) 0 (messages mail)) ⌝ }
+    ensures { λ r. ⌜ r ≡ received (stateOf p mail) (search (take n clauses) 0 (messages mail)) ⌝ }
 {
     let found = search(clauses, n, mail);
     match found {
@@ -132,7 +133,7 @@ pub fn receive(p: Process, mail: Mailbox, clauses: [Op; 8], n: u8) -> Received
 
 // Message i leaves by clause k.
 fn taken(p: Process, mail: Mailbox, clauses: [Op; 8], i: u8, k: u8) -> Received
-    ensures { λ r. ⌜ answerOf r ≡ receivesFit (stateOf p mail) (fitOf clauses mail (Found.Fit i k)) ⌝ }
+    ensures { λ r. ⌜ r ≡ received (stateOf p mail) (some (fitAt clauses mail (record { message = i; clause = k }))) ⌝ }
 {
     let m = mail.message_at(i);
     let c = clause_at(clauses, k);

@@ -30,7 +30,9 @@ returns c =
     let its-becomes = c .becomes in
     let its-advanced = c .before .advanced in
     let its-with-register = c .before .before .with-register in
-    λ i code o m. let t : its-total-of .result ≡ sumOf (its-args .x +ℤ its-args .y) = rw (toZ-ofZ w32 (its-args .x) (its-fits .x), toZ-ofZ w32 (its-args .y) (its-fits .y)) at (its-total-of .ensures) in let s = sum-there (its-args .x +ℤ its-args .y) (its-total-of .result) t (its-if1 .taken) in rw (its-becomes .ensures, its-advanced .ensures, its-with-register .ensures, s .0, s .1)
+    let t : its-total-of .result ≡ sumOf (its-args .x +ℤ its-args .y) = rw (toZ-ofZ w32 (its-args .x) (its-fits .x), toZ-ofZ w32 (its-args .y) (its-fits .y)) at (its-total-of .ensures) in
+    let s = sum-there (its-args .x +ℤ its-args .y) (its-total-of .result) t (its-if1 .taken) in
+    rw (its-becomes .ensures, its-advanced .ensures, its-with-register .ensures, s .0, s .1)
 
 ended-requires : tie.Need-ended-requires
 ended-requires c κs = search needs
@@ -46,7 +48,8 @@ returns-2 c =
     let its-becomes2 = c .becomes2 in
     let its-ended = c .before .ended in
     let its-if1 = c .before .before .if1 in
-    λ i code o m. let t : its-total-of .result ≡ sumOf (its-args .x +ℤ its-args .y) = rw (toZ-ofZ w32 (its-args .x) (its-fits .x), toZ-ofZ w32 (its-args .y) (its-fits .y)) at (its-total-of .ensures) in rw (its-becomes2 .ensures, its-ended .ensures, sum-gone (its-args .x +ℤ its-args .y) (its-total-of .result) t (its-if1 .left))
+    let t : its-total-of .result ≡ sumOf (its-args .x +ℤ its-args .y) = rw (toZ-ofZ w32 (its-args .x) (its-fits .x), toZ-ofZ w32 (its-args .y) (its-fits .y)) at (its-total-of .ensures) in
+    rw (its-becomes2 .ensures, its-ended .ensures, sum-gone (its-args .x +ℤ its-args .y) (its-total-of .result) t (its-if1 .left))
 
 pub add-spec : {M : Type 1} → statement M
 add-spec =

@@ -43,7 +43,7 @@ returns c =
     let its-loop = c .before .before .before .before .loop in
     let its-args = c .before .before .before .before .before .before .args in
     let its-if1 = c .before .before .if1 in
-    λ i code o m. rw (its-sends .ensures, its-unlinked .ensures, its-loop .inv .2, lowest-here (its-args .p) (its-loop .k) (omega arith) (its-if1 .taken))
+    rw (its-sends .ensures, its-unlinked .ensures, its-loop .inv .2, lowest-here (its-args .p) (its-loop .k) (omega arith) (its-if1 .taken))
 
 add-k : tie.Need-add-k Inv-loop μ-loop
 add-k c = omega arith
@@ -71,7 +71,7 @@ returns-2 c =
     let its-gone = c .before .gone in
     let its-loop = c .before .before .before .loop in
     let its-args = c .before .before .before .before .before .args in
-    λ i code o m. rw (its-becomes .ensures, its-gone .ensures, its-loop .inv .2, lowest-none (its-args .p) (its-loop .k) (omega arith))
+    rw (its-becomes .ensures, its-gone .ensures, its-loop .inv .2, lowest-none (its-args .p) (its-loop .k) (omega arith))
 
 pub close-spec : {M : Type 1} → statement M
 close-spec =

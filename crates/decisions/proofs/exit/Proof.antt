@@ -1,5 +1,6 @@
 -- `exit`: the first line that applies. Assumes nothing.
 use mathlib.Core.Path.{_∙_}
+use Rattle.decisions.proofs.Laws.{says-becomes}
 use Rattle.rules.specs.Arrive.{exits}
 use borrow.Author.Needs.{needs}
 use Rattle.decisions.proofs.exit.Statement.{statement}
@@ -18,10 +19,12 @@ returns : tie.Need-returns
 unfolding exits
 returns c =
     let its-becomes = c .becomes in
+    let its-args = c .before .before .before .before .args in
     let its-links-to = c .before .before .before .links-to in
     let its-both = c .before .before .both in
     let its-if1 = c .before .if1 in
-    λ m e. rw (its-becomes .ensures, ← its-links-to .ensures, ← its-both .ensures, its-if1 .taken)
+    its-becomes .ensures ∙ says-becomes (its-args .p) (its-args .p) (its-args .count)
+    ∙ rw (← its-links-to .ensures, ← its-both .ensures, its-if1 .taken)
 
 same-value-requires : tie.Need-same-value-requires
 same-value-requires c κs = search needs
@@ -40,13 +43,15 @@ unfolding exits
 returns-2 c =
     let its-becomes2 = c .becomes2 in
     let its-ended = c .before .ended in
+    let its-args = c .before .before .before .before .before .before .before .before .args in
     let its-links-to = c .before .before .before .before .before .before .before .links-to in
     let its-both = c .before .before .before .before .before .before .both in
     let its-if1 = c .before .before .before .before .before .if1 in
     let its-same-value = c .before .before .before .before .same-value in
     let its-both2 = c .before .before .before .both2 in
     let its-if2 = c .before .before .if2 in
-    λ m e. rw (its-becomes2 .ensures, its-ended .ensures, ← its-links-to .ensures, ← its-both .ensures, its-if1 .left, ← its-same-value .ensures, ← its-both2 .ensures, its-if2 .taken)
+    its-becomes2 .ensures ∙ says-becomes (its-args .p) (its-ended .result) (its-args .count)
+    ∙ rw (its-ended .ensures, ← its-links-to .ensures, ← its-both .ensures, its-if1 .left, ← its-same-value .ensures, ← its-both2 .ensures, its-if2 .taken)
 
 note-requires : tie.Need-note-requires
 note-requires c κs = search needs
@@ -63,7 +68,8 @@ returns-3 c =
     let its-both2 = c .before .before .before .both2 in
     let its-if2 = c .before .before .if2 in
     let its-if3 = c .before .if3 in
-    λ m e. its-note .ensures m e ∙ rw (← its-links-to .ensures, ← its-both .ensures, its-if1 .left, ← its-same-value .ensures, ← its-both2 .ensures, its-if2 .left, its-if3 .taken)
+    its-note .ensures
+    ∙ rw (← its-links-to .ensures, ← its-both .ensures, its-if1 .left, ← its-same-value .ensures, ← its-both2 .ensures, its-if2 .left, its-if3 .taken)
 
 drops-normal-requires : tie.Need-drops-normal-requires
 drops-normal-requires c κs = search needs
@@ -83,8 +89,10 @@ returns-4 c =
     let its-same-value = c .before .before .before .before .before .before .same-value in
     let its-if1 = c .before .before .before .before .before .before .before .if1 in
     let its-both = c .before .before .before .before .before .before .before .before .both in
+    let its-args = c .before .before .before .before .before .before .before .before .before .before .args in
     let its-links-to = c .before .before .before .before .before .before .before .before .before .links-to in
-    λ m e. rw (its-becomes3 .ensures, ← its-links-to .ensures, ← its-both .ensures, its-if1 .left, ← its-same-value .ensures, ← its-both2 .ensures, its-if2 .left, its-if3 .left, ← its-drops-normal .ensures, its-if4 .taken)
+    its-becomes3 .ensures ∙ says-becomes (its-args .p) (its-args .p) (its-args .count)
+    ∙ rw (← its-links-to .ensures, ← its-both .ensures, its-if1 .left, ← its-same-value .ensures, ← its-both2 .ensures, its-if2 .left, its-if3 .left, ← its-drops-normal .ensures, its-if4 .taken)
 
 ended-requires-2 : tie.Need-ended-requires-2
 ended-requires-2 c κs = search needs
@@ -105,8 +113,10 @@ returns-5 c =
     let its-same-value = c .before .before .before .before .before .before .before .same-value in
     let its-if1 = c .before .before .before .before .before .before .before .before .if1 in
     let its-both = c .before .before .before .before .before .before .before .before .before .both in
+    let its-args = c .before .before .before .before .before .before .before .before .before .before .before .args in
     let its-links-to = c .before .before .before .before .before .before .before .before .before .before .links-to in
-    λ m e. rw (its-becomes4 .ensures, its-ended2 .ensures, ← its-links-to .ensures, ← its-both .ensures, its-if1 .left, ← its-same-value .ensures, ← its-both2 .ensures, its-if2 .left, its-if3 .left, ← its-drops-normal .ensures, its-if4 .left)
+    its-becomes4 .ensures ∙ says-becomes (its-args .p) (its-ended2 .result) (its-args .count)
+    ∙ rw (its-ended2 .ensures, ← its-links-to .ensures, ← its-both .ensures, its-if1 .left, ← its-same-value .ensures, ← its-both2 .ensures, its-if2 .left, its-if3 .left, ← its-drops-normal .ensures, its-if4 .left)
 
 pub exit-spec : {M : Type 1} → statement M
 exit-spec =

@@ -14,7 +14,7 @@ returns c =
     let its-becomes = c .becomes in
     let its-moved = c .before .moved in
     let its-if1 = c .before .before .if1 in
-    λ i code o m. rw (its-becomes .ensures, its-moved .ensures, its-if1 .taken)
+    rw (its-becomes .ensures, its-moved .ensures, its-if1 .taken)
 
 advanced-requires : tie.Need-advanced-requires
 advanced-requires c κs = search needs
@@ -27,7 +27,7 @@ returns-2 c =
     let its-becomes2 = c .becomes2 in
     let its-advanced = c .before .advanced in
     let its-if1 = c .before .before .if1 in
-    λ i code o m. rw (its-becomes2 .ensures, its-advanced .ensures, its-if1 .left)
+    rw (its-becomes2 .ensures, its-advanced .ensures, its-if1 .left)
 
 pub jump-if-spec : {M : Type 1} → statement M
 jump-if-spec =

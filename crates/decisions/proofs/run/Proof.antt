@@ -1,8 +1,6 @@
 -- `run`: by the stage. Assumes nothing.
-use mathlib.Core.Path.{sym, _∙_, ap}
-use Rattle.decisions.specs.Answers.{stateOf}
-use Rattle.node.specs.declared.Stage.{Stage}
-use Rattle.rules.specs.Run.{runsIn, runs}
+use mathlib.Core.Path.{_∙_}
+use Rattle.decisions.proofs.Laws.{at-stage}
 use borrow.Author.Needs.{needs}
 use Rattle.decisions.proofs.run.Statement.{statement}
 use Rattle.decisions.proofs.run.Tie as tie
@@ -32,36 +30,32 @@ refuses-requires-2 : tie.Need-refuses-requires-2
 refuses-requires-2 c κs = search needs
 
 returns : tie.Need-returns
-unfolding runs
 returns c =
     let its-refuses = c .refuses in
     let its-args = c .before .before .before .args in
     let its-enum-told = c .before .enum-told in
-    λ code m q. rw (its-refuses .ensures) (sym (ap (λ (s : Stage). runsIn s code (its-args .i .0) (stateOf (its-args .p) m)) (its-enum-told .given .1)))
+    its-refuses .ensures ∙ at-stage (its-args .i) (its-args .p) (its-args .len) (its-args .op) (its-enum-told .given .1)
 
 returns-2 : tie.Need-returns-2
-unfolding runs
 returns-2 c =
     let its-run-live = c .run-live in
     let its-args = c .before .before .before .args in
     let its-enum-told2 = c .before .enum-told2 in
-    λ code m q. its-run-live .ensures code m (q (its-enum-told2 .given .1)) ∙ sym (ap (λ (s : Stage). runsIn s code (its-args .i .0) (stateOf (its-args .p) m)) (its-enum-told2 .given .1))
+    its-run-live .ensures ∙ at-stage (its-args .i) (its-args .p) (its-args .len) (its-args .op) (its-enum-told2 .given .1)
 
 returns-3 : tie.Need-returns-3
-unfolding runs
 returns-3 c =
     let its-close = c .close in
     let its-args = c .before .before .before .args in
     let its-enum-told3 = c .before .enum-told3 in
-    λ code m q. its-close .ensures (its-args .i .0) code (its-args .op) m ∙ sym (ap (λ (s : Stage). runsIn s code (its-args .i .0) (stateOf (its-args .p) m)) (its-enum-told3 .given .1))
+    its-close .ensures ∙ at-stage (its-args .i) (its-args .p) (its-args .len) (its-args .op) (its-enum-told3 .given .1)
 
 returns-4 : tie.Need-returns-4
-unfolding runs
 returns-4 c =
     let its-refuses2 = c .refuses2 in
     let its-args = c .before .before .before .args in
     let its-enum-told4 = c .before .enum-told4 in
-    λ code m q. rw (its-refuses2 .ensures) (sym (ap (λ (s : Stage). runsIn s code (its-args .i .0) (stateOf (its-args .p) m)) (its-enum-told4 .given .1)))
+    its-refuses2 .ensures ∙ at-stage (its-args .i) (its-args .p) (its-args .len) (its-args .op) (its-enum-told4 .given .1)
 
 pub run-spec : {M : Type 1} → statement M
 run-spec =

@@ -1,8 +1,8 @@
 -- `run_add`: two integers, or the process ends with badarith. Assumes nothing.
-use mathlib.Core.Path.{sym, _∙_}
+use mathlib.Core.Path.{sym, _∙_, ap}
 use mir.Syntax.{w32}
 use mir.ValLaws.{toZ-ofZ}
-use Rattle.decisions.specs.Answers.{stateOf}
+use Rattle.decisions.specs.Answers.{unread, effectOf}
 use Rattle.decisions.proofs.Laws.{adds-not, are-ints}
 use borrow.Author.Needs.{needs}
 use Rattle.decisions.proofs.run_add.Statement.{statement}
@@ -41,7 +41,8 @@ returns c =
     let its-args = c .before .before .before .before .before .before .before .args in
     let its-integers = c .before .before .before .before .integers in
     let its-enum-told = c .before .before .enum-told in
-    λ i code o m. rw (its-becomes .ensures, its-ended .ensures, ← its-register .ensures, ← its-register2 .ensures) (sym (adds-not (stateOf (its-args .p) m) (its-args .op .r) (its-register .result) (its-register2 .result) (sym (its-integers .ensures) ∙ its-enum-told .given .1)))
+    let not-both = adds-not (unread (its-args .p) 0) (its-args .op .r) (its-register .result) (its-register2 .result) (sym (its-integers .ensures) ∙ its-enum-told .given .1) in
+    rw (its-becomes .ensures, its-ended .ensures, ← its-register .ensures, ← its-register2 .ensures) (sym (ap (effectOf (unread (its-args .p) 0)) not-both))
 
 returns-2 : tie.Need-returns-2
 returns-2 c =
@@ -50,7 +51,9 @@ returns-2 c =
     let its-both = c .before .before .both in
     let its-integers = c .before .before .before .before .integers in
     let its-add = c .add in
-    λ i code o m. let a = are-ints (its-register .result) (its-register2 .result) (its-both .given .0 .0) (its-both .given .0 .1 .0) (sym (its-integers .ensures) ∙ its-both .given .1) in its-add .ensures i code o m ∙ rw (← its-register .ensures, ← its-register2 .ensures, a .left, a .right, toZ-ofZ w32 (its-both .given .0 .0) (search needs), toZ-ofZ w32 (its-both .given .0 .1 .0) (search needs))
+    let a = are-ints (its-register .result) (its-register2 .result) (its-both .given .0 .0) (its-both .given .0 .1 .0) (sym (its-integers .ensures) ∙ its-both .given .1) in
+    its-add .ensures
+    ∙ rw (← its-register .ensures, ← its-register2 .ensures, a .left, a .right, toZ-ofZ w32 (its-both .given .0 .0) (search needs), toZ-ofZ w32 (its-both .given .0 .1 .0) (search needs))
 
 pub run-add-spec : {M : Type 1} → statement M
 run-add-spec =

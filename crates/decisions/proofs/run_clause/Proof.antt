@@ -13,7 +13,7 @@ returns : tie.Need-returns
 returns c =
     let its-becomes = c .becomes in
     let its-advanced = c .before .advanced in
-    λ i code o m. rw (its-becomes .ensures, its-advanced .ensures)
+    rw (its-becomes .ensures, its-advanced .ensures)
 
 pub run-clause-spec : {M : Type 1} → statement M
 run-clause-spec = tie.close (tie.spec advanced-requires becomes-requires returns)

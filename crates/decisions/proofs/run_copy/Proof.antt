@@ -21,7 +21,7 @@ returns c =
     let its-advanced = c .before .advanced in
     let its-with-register = c .before .before .with-register in
     let its-register = c .before .before .before .register in
-    λ i code o m. rw (its-becomes .ensures, its-advanced .ensures, its-with-register .ensures, its-register .ensures)
+    rw (its-becomes .ensures, its-advanced .ensures, its-with-register .ensures, its-register .ensures)
 
 pub run-copy-spec : {M : Type 1} → statement M
 run-copy-spec =

@@ -18,7 +18,7 @@ returns c =
     let its-send-to = c .send-to in
     let its-register = c .before .before .register in
     let its-register2 = c .before .register2 in
-    λ i code o m. its-send-to .ensures i code o m ∙ rw (its-register .ensures, its-register2 .ensures)
+    its-send-to .ensures ∙ rw (its-register .ensures, its-register2 .ensures)
 
 pub run-exit-spec : {M : Type 1} → statement M
 run-exit-spec = tie.close (tie.spec register-requires register-requires-2 send-to-requires returns)

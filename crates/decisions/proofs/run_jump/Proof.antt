@@ -13,7 +13,7 @@ returns : tie.Need-returns
 returns c =
     let its-becomes = c .becomes in
     let its-moved = c .before .moved in
-    λ i code o m. rw (its-becomes .ensures, its-moved .ensures)
+    rw (its-becomes .ensures, its-moved .ensures)
 
 pub run-jump-spec : {M : Type 1} → statement M
 run-jump-spec = tie.close (tie.spec moved-requires becomes-requires returns)

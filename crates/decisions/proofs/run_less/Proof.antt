@@ -1,8 +1,8 @@
 -- `run_less`: two integers, or the process ends with badarg. Assumes nothing.
-use mathlib.Core.Path.{sym, _∙_}
+use mathlib.Core.Path.{sym, _∙_, ap}
 use mir.Syntax.{w32}
 use mir.ValLaws.{toZ-ofZ}
-use Rattle.decisions.specs.Answers.{stateOf}
+use Rattle.decisions.specs.Answers.{unread, effectOf}
 use Rattle.decisions.proofs.Laws.{compares-not, are-ints}
 use borrow.Author.Needs.{needs}
 use Rattle.decisions.proofs.run_less.Statement.{statement}
@@ -37,7 +37,8 @@ returns c =
     let its-args = c .before .before .before .before .before .before .args in
     let its-integers = c .before .before .before .integers in
     let its-enum-told = c .before .enum-told in
-    λ i code o m. rw (its-end-badarg .ensures, ← its-register .ensures, ← its-register2 .ensures) (sym (compares-not (stateOf (its-args .p) m) (its-args .op .target) (its-register .result) (its-register2 .result) (sym (its-integers .ensures) ∙ its-enum-told .given .1)))
+    let not-both = compares-not (unread (its-args .p) 0) (its-args .op .target) (its-register .result) (its-register2 .result) (sym (its-integers .ensures) ∙ its-enum-told .given .1) in
+    rw (its-end-badarg .ensures, ← its-register .ensures, ← its-register2 .ensures) (sym (ap (effectOf (unread (its-args .p) 0)) not-both))
 
 returns-2 : tie.Need-returns-2
 returns-2 c =
@@ -46,7 +47,9 @@ returns-2 c =
     let its-both = c .before .before .both in
     let its-integers = c .before .before .before .before .integers in
     let its-jump-if = c .jump-if in
-    λ i code o m. let a = are-ints (its-register .result) (its-register2 .result) (its-both .given .0 .0) (its-both .given .0 .1 .0) (sym (its-integers .ensures) ∙ its-both .given .1) in its-jump-if .ensures i code o m ∙ rw (← its-register .ensures, ← its-register2 .ensures, a .left, a .right, toZ-ofZ w32 (its-both .given .0 .0) (search needs), toZ-ofZ w32 (its-both .given .0 .1 .0) (search needs))
+    let a = are-ints (its-register .result) (its-register2 .result) (its-both .given .0 .0) (its-both .given .0 .1 .0) (sym (its-integers .ensures) ∙ its-both .given .1) in
+    its-jump-if .ensures
+    ∙ rw (← its-register .ensures, ← its-register2 .ensures, a .left, a .right, toZ-ofZ w32 (its-both .given .0 .0) (search needs), toZ-ofZ w32 (its-both .given .0 .1 .0) (search needs))
 
 pub run-less-spec : {M : Type 1} → statement M
 run-less-spec =

@@ -1,12 +1,8 @@
 -- `run_op`: each arm is the entry of the table with its number; past the table an op is stop. Assumes nothing.
-use lib.ListN.{getD, List·getD-eq-default}
-use mathlib.Core.Path.{sym, _∙_, ap}
-use Prim.Native.Nat.{ℕ}
-use Rattle.decisions.proofs.Laws.{past}
-use Rattle.decisions.specs.Answers.{stateOf}
-use Rattle.node.specs.Processes.{register}
-use Rattle.rules.specs.Effects.{ends}
-use Rattle.rules.specs.Run.{opTable, runsOp}
+use mathlib.Core.Path.{_∙_}
+use Rattle.decisions.proofs.Laws.{past, ran-at, ran-stop}
+use Rattle.node.specs.Mailboxes.{messages}
+use Rattle.rules.specs.Receive.{receives}
 use borrow.Author.Needs.{needs}
 use Rattle.decisions.proofs.run_op.Statement.{statement}
 use Rattle.decisions.proofs.run_op.Tie as tie
@@ -60,132 +56,117 @@ run-stop-requires : tie.Need-run-stop-requires
 run-stop-requires c κs = search needs
 
 returns : tie.Need-returns
-unfolding runsOp
 returns c =
     let its-run-set = c .run-set in
     let its-args = c .before .before .args in
     let its-match = c .before .match in
-    λ code m. its-run-set .ensures (its-args .i .0) code (its-args .op) m ∙ rw (its-match .keys1)
+    its-run-set .ensures ∙ ran-at (its-args .i) (its-args .p) (its-args .op) 0 (its-match .keys1)
 
 returns-2 : tie.Need-returns-2
-unfolding runsOp
 returns-2 c =
     let its-run-copy = c .run-copy in
     let its-args = c .before .before .args in
     let its-match = c .before .match in
-    λ code m. its-run-copy .ensures (its-args .i .0) code (its-args .op) m ∙ rw (its-match .keys2)
+    its-run-copy .ensures ∙ ran-at (its-args .i) (its-args .p) (its-args .op) 1 (its-match .keys2)
 
 returns-3 : tie.Need-returns-3
-unfolding runsOp
 returns-3 c =
     let its-run-self = c .run-self in
     let its-args = c .before .before .args in
     let its-match = c .before .match in
-    λ code m. its-run-self .ensures (its-args .i .0) code (its-args .op) m ∙ rw (its-match .keys3)
+    its-run-self .ensures ∙ ran-at (its-args .i) (its-args .p) (its-args .op) 2 (its-match .keys3)
 
 returns-4 : tie.Need-returns-4
-unfolding runsOp
 returns-4 c =
     let its-run-add = c .run-add in
     let its-args = c .before .before .args in
     let its-match = c .before .match in
-    λ code m. its-run-add .ensures (its-args .i .0) code (its-args .op) m ∙ rw (its-match .keys4)
+    its-run-add .ensures ∙ ran-at (its-args .i) (its-args .p) (its-args .op) 3 (its-match .keys4)
 
 returns-5 : tie.Need-returns-5
-unfolding runsOp
 returns-5 c =
     let its-run-send = c .run-send in
     let its-args = c .before .before .args in
     let its-match = c .before .match in
-    λ code m. its-run-send .ensures (its-args .i .0) code (its-args .op) m ∙ rw (its-match .keys5)
+    its-run-send .ensures ∙ ran-at (its-args .i) (its-args .p) (its-args .op) 4 (its-match .keys5)
 
 returns-6 : tie.Need-returns-6
-unfolding runsOp
 returns-6 c =
     let its-run-exit = c .run-exit in
     let its-args = c .before .before .args in
     let its-match = c .before .match in
-    λ code m. its-run-exit .ensures (its-args .i .0) code (its-args .op) m ∙ rw (its-match .keys6)
+    its-run-exit .ensures ∙ ran-at (its-args .i) (its-args .p) (its-args .op) 5 (its-match .keys6)
 
 returns-7 : tie.Need-returns-7
-unfolding runsOp
 returns-7 c =
     let its-run-link = c .run-link in
     let its-args = c .before .before .args in
     let its-match = c .before .match in
-    λ code m. its-run-link .ensures code (its-args .op) m ∙ rw (its-match .keys7)
+    its-run-link .ensures ∙ ran-at (its-args .i) (its-args .p) (its-args .op) 6 (its-match .keys7)
 
 returns-8 : tie.Need-returns-8
-unfolding runsOp
 returns-8 c =
     let its-run-unlink = c .run-unlink in
     let its-args = c .before .before .args in
     let its-match = c .before .match in
-    λ code m. its-run-unlink .ensures code (its-args .op) m ∙ rw (its-match .keys8)
+    its-run-unlink .ensures ∙ ran-at (its-args .i) (its-args .p) (its-args .op) 7 (its-match .keys8)
 
 returns-9 : tie.Need-returns-9
-unfolding runsOp
 returns-9 c =
     let its-run-trap = c .run-trap in
     let its-args = c .before .before .args in
     let its-match = c .before .match in
-    λ code m. its-run-trap .ensures (its-args .i .0) code (its-args .op) m ∙ rw (its-match .keys9)
+    its-run-trap .ensures ∙ ran-at (its-args .i) (its-args .p) (its-args .op) 8 (its-match .keys9)
 
 returns-10 : tie.Need-returns-10
-unfolding runsOp
 returns-10 c =
     let its-run-spawn = c .run-spawn in
     let its-args = c .before .before .args in
     let its-match = c .before .match in
-    λ code m. its-run-spawn .ensures (its-args .i .0) code (its-args .op) m ∙ rw (its-match .keys10)
+    its-run-spawn .ensures (its-args .i .0) ∙ ran-at (its-args .i) (its-args .p) (its-args .op) 9 (its-match .keys10)
 
 returns-11 : tie.Need-returns-11
-unfolding runsOp
+unfolding receives messages
 returns-11 c =
     let its-run-recv = c .run-recv in
     let its-args = c .before .before .args in
     let its-match = c .before .match in
-    λ code m. rw (its-run-recv .ensures) (sym (ap (λ (k : ℕ). getD (opTable code (its-args .i .0) (stateOf (its-args .p) m) (its-args .op)) k (ends (stateOf (its-args .p) m) (register (its-args .p) (its-args .op .r)))) (its-match .keys11)))
+    its-run-recv .ensures ∙ ran-at (its-args .i) (its-args .p) (its-args .op) 10 (its-match .keys11)
 
 returns-12 : tie.Need-returns-12
-unfolding runsOp
 returns-12 c =
     let its-run-clause = c .run-clause in
     let its-args = c .before .before .args in
     let its-match = c .before .match in
-    λ code m. its-run-clause .ensures (its-args .i .0) code (its-args .op) m ∙ rw (its-match .keys12)
+    its-run-clause .ensures ∙ ran-at (its-args .i) (its-args .p) (its-args .op) 11 (its-match .keys12)
 
 returns-13 : tie.Need-returns-13
-unfolding runsOp
 returns-13 c =
     let its-run-jump = c .run-jump in
     let its-args = c .before .before .args in
     let its-match = c .before .match in
-    λ code m. its-run-jump .ensures (its-args .i .0) code (its-args .op) m ∙ rw (its-match .keys13)
+    its-run-jump .ensures ∙ ran-at (its-args .i) (its-args .p) (its-args .op) 12 (its-match .keys13)
 
 returns-14 : tie.Need-returns-14
-unfolding runsOp
 returns-14 c =
     let its-run-same = c .run-same in
     let its-args = c .before .before .args in
     let its-match = c .before .match in
-    λ code m. its-run-same .ensures (its-args .i .0) code (its-args .op) m ∙ rw (its-match .keys14)
+    its-run-same .ensures ∙ ran-at (its-args .i) (its-args .p) (its-args .op) 13 (its-match .keys14)
 
 returns-15 : tie.Need-returns-15
-unfolding runsOp
 returns-15 c =
     let its-run-less = c .run-less in
     let its-args = c .before .before .args in
     let its-match = c .before .match in
-    λ code m. its-run-less .ensures (its-args .i .0) code (its-args .op) m ∙ rw (its-match .keys15)
+    its-run-less .ensures ∙ ran-at (its-args .i) (its-args .p) (its-args .op) 14 (its-match .keys15)
 
 returns-16 : tie.Need-returns-16
-unfolding runsOp
 returns-16 c =
     let its-run-stop = c .run-stop in
     let its-args = c .before .before .args in
     let its-match = c .before .match in
-    λ code m. its-run-stop .ensures (its-args .i .0) code (its-args .op) m ∙ rw (List·getD-eq-default (opTable code (its-args .i .0) (stateOf (its-args .p) m) (its-args .op)) (ends (stateOf (its-args .p) m) (register (its-args .p) (its-args .op .r))) {n = its-args .op .number} (past 15 (its-args .op .number) (its-match .rest)))
+    its-run-stop .ensures ∙ ran-stop (its-args .i) (its-args .p) (its-args .op) (past 15 (its-args .op .number) (its-match .rest))
 
 pub run-op-spec : {M : Type 1} → statement M
 run-op-spec =

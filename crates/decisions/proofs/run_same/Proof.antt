@@ -18,7 +18,7 @@ returns c =
     let its-jump-if = c .jump-if in
     let its-same-value = c .before .same-value in
     let its-register = c .before .before .register in
-    λ i code o m. its-jump-if .ensures i code o m ∙ rw (its-same-value .ensures, its-register .ensures)
+    its-jump-if .ensures ∙ rw (its-same-value .ensures, its-register .ensures)
 
 pub run-same-spec : {M : Type 1} → statement M
 run-same-spec = tie.close (tie.spec register-requires same-value-requires jump-if-requires returns)

@@ -17,7 +17,7 @@ returns c =
     let its-becomes = c .becomes in
     let its-advanced = c .before .advanced in
     let its-with-register = c .before .before .with-register in
-    λ i code o m. rw (its-becomes .ensures, its-advanced .ensures, its-with-register .ensures)
+    rw (its-becomes .ensures, its-advanced .ensures, its-with-register .ensures)
 
 pub run-set-spec : {M : Type 1} → statement M
 run-set-spec =

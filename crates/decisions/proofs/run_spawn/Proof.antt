@@ -13,7 +13,7 @@ returns : tie.Need-returns
 returns c =
     let its-advanced = c .advanced in
     let its-with-register = c .before .with-register in
-    λ i code o m. rw (its-advanced .ensures, its-with-register .ensures)
+    λ i. rw (its-advanced .ensures, its-with-register .ensures)
 
 pub run-spawn-spec : {M : Type 1} → statement M
 run-spawn-spec = tie.close (tie.spec with-register-requires advanced-requires returns)

@@ -17,7 +17,7 @@ returns c =
     let its-becomes = c .becomes in
     let its-ended = c .before .ended in
     let its-register = c .before .before .register in
-    λ i code o m. rw (its-becomes .ensures, its-ended .ensures, its-register .ensures)
+    rw (its-becomes .ensures, its-ended .ensures, its-register .ensures)
 
 pub run-stop-spec : {M : Type 1} → statement M
 run-stop-spec = tie.close (tie.spec register-requires ended-requires becomes-requires returns)

@@ -17,7 +17,7 @@ returns c =
     let its-becomes = c .becomes in
     let its-advanced = c .before .advanced in
     let its-trapped = c .before .before .trapped in
-    λ i code o m. rw (its-becomes .ensures, its-advanced .ensures, its-trapped .ensures)
+    rw (its-becomes .ensures, its-advanced .ensures, its-trapped .ensures)
 
 pub run-trap-spec : {M : Type 1} → statement M
 run-trap-spec = tie.close (tie.spec trapped-requires advanced-requires becomes-requires returns)

@@ -28,20 +28,20 @@ returns : tie.Need-returns
 returns c =
     let its-enum-told = c .before .enum-told in
     let its-end-badarg = c .end-badarg in
-    λ i code o m. rw (its-enum-told .given .1, its-end-badarg .ensures)
+    rw (its-enum-told .given .1, its-end-badarg .ensures)
 
 returns-2 : tie.Need-returns-2
 returns-2 c =
     let its-enum-told2 = c .before .enum-told2 in
     let its-end-badarg2 = c .end-badarg2 in
-    λ i code o m. rw (its-enum-told2 .given .1, its-end-badarg2 .ensures)
+    rw (its-enum-told2 .given .1, its-end-badarg2 .ensures)
 
 returns-3 : tie.Need-returns-3
 returns-3 c =
     let its-v = c .before .before .before .v in
     let its-sends = c .sends in
     let its-advanced = c .before .advanced in
-    λ i code o m. rw (its-v .given .1, its-sends .ensures, its-advanced .ensures)
+    rw (its-v .given .1, its-sends .ensures, its-advanced .ensures)
 
 pub send-to-spec : {M : Type 1} → statement M
 send-to-spec =

@@ -1,5 +1,6 @@
 -- `take`: by the signal. Assumes nothing.
 use mathlib.Core.Path.{_∙_}
+use Rattle.decisions.proofs.Laws.{says-becomes}
 use borrow.Author.Needs.{needs}
 use Rattle.decisions.proofs.take.Statement.{statement}
 use Rattle.decisions.proofs.take.Tie as tie
@@ -37,29 +38,30 @@ becomes-requires-2 c κs = search needs
 returns : tie.Need-returns
 returns c =
     let its-join = c .join in
-    let its-args = c .before .before .before .before .args in
     let its-x = c .before .before .x in
-    λ m e. its-join .ensures (its-args .p) m e ∙ rw (its-x .given .1)
+    its-join .ensures ∙ rw (its-x .given .1)
 
 returns-2 : tie.Need-returns-2
 returns-2 c =
     let its-exit = c .exit in
     let its-x2 = c .before .before .x2 in
-    λ m e. its-exit .ensures m e ∙ rw (its-x2 .given .1)
+    its-exit .ensures ∙ rw (its-x2 .given .1)
 
 returns-3 : tie.Need-returns-3
 returns-3 c =
     let its-becomes = c .becomes in
     let its-linked = c .before .linked in
     let its-enum-told = c .before .before .enum-told in
-    λ m e. rw (its-becomes .ensures, its-linked .ensures, its-enum-told .given .1)
+    let its-args = c .before .before .before .before .args in
+    its-becomes .ensures ∙ says-becomes (its-args .p) (its-linked .result) (its-args .count) ∙ rw (its-linked .ensures, its-enum-told .given .1)
 
 returns-4 : tie.Need-returns-4
 returns-4 c =
     let its-becomes2 = c .becomes2 in
     let its-unlinked = c .before .unlinked in
     let its-enum-told2 = c .before .before .enum-told2 in
-    λ m e. rw (its-becomes2 .ensures, its-unlinked .ensures, its-enum-told2 .given .1)
+    let its-args = c .before .before .before .before .args in
+    its-becomes2 .ensures ∙ says-becomes (its-args .p) (its-unlinked .result) (its-args .count) ∙ rw (its-unlinked .ensures, its-enum-told2 .given .1)
 
 pub take-spec : {M : Type 1} → statement M
 take-spec =

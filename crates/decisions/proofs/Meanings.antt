@@ -1,0 +1,289 @@
+-- What a record of this crate tells is the rules' answer, whatever the messages of the mailbox are: for a run where the op and the length are those
+-- of its code, and for an arrival where the count is that of its mailbox. Assumes nothing.
+--   run-means        the answer that the record of a run tells is `runs`
+--   run-joins-none   no message joins in a run
+--   arrival-means    the answer that the record of an arrival tells is `arrives`
+--   arrival-quiet    an arrival searches no mailbox, sends nothing and brings nobody to life
+use mathlib.Core.Bool.{Bool, true, false, cond, not, _&&_}
+use mathlib.Core.List.{List, [], _∷_}
+use mathlib.Core.Option.{Option, none, some}
+use mathlib.Core.Path.{_≡_, refl, sym, _∙_, ap}
+use Prim.Native.Nat.{ℕ, zero, suc, _+_, _<_, min}
+use native.Mathlib.Omega.{arith}
+use borrow.Author.Tests.{leb-false, ltb-true, lt-ltb, le-ltb}
+use lib.Dec.{eqb, leb, ltb}
+use lib.IntN.{_+ℤ_}
+use lib.ListN.{length, getD}
+use lib.Seq.{getD-set-same}
+use Rattle.node.specs.declared.Mailbox.{Mailbox}
+use Rattle.node.specs.declared.Message.{Message}
+use Rattle.node.specs.declared.Op.{Op}
+use Rattle.node.specs.declared.Process.{Process}
+use Rattle.node.specs.declared.ProcessNumber.{ProcessNumber}
+use Rattle.node.specs.declared.Signal.{Signal}
+use Rattle.node.specs.declared.Signal.the-variants.{Msg, Exit, Link, Unlink}
+use Rattle.node.specs.declared.Stage.{Stage}
+use Rattle.node.specs.declared.Stage.the-variants.{Unborn, Live, Closing, Gone}
+use Rattle.node.specs.declared.Value.{Value}
+use Rattle.node.specs.declared.Value.the-variants.{Int, Atom, Pid}
+use Rattle.node.specs.Mailboxes.{noMessage, emptyMailbox, messages, joined}
+use Rattle.node.specs.Nodes.{noOp, noMailbox}
+use Rattle.node.specs.Processes.{register, advanced, linksTo, linked, unlinked}
+use Rattle.node.specs.Values.{normal, kill, badarith}
+use Rattle.rules.specs.Answers.{Answer, done, need, mailboxFull}
+use Rattle.rules.specs.Arrive.{joinsWith, exits, takes, arrivesIn, arrives}
+use Rattle.rules.specs.Effects.{State, Effect, becomes, ends, sends}
+use Rattle.rules.specs.Receive.{receives}
+use Rattle.rules.specs.Run.{setsRegister, adds, compares, toProcess, toOther, opTable, runsOp, lowest, closesTo, closes, runsLive, runsIn, runs}
+use Rattle.rules.specs.Values.{numbers, fitsInt, sameValue}
+use Rattle.decisions.proofs.Laws.{ops-length, ops-op}
+use Rattle.decisions.specs.Answers.{stateOf, unread, effectOf, codeAt, ran, arrived, answerOf}
+
+-- the code has len ops, and o stands at place t where t is not its end
+pub record At (code : List Op) (len t : ℕ) (o : Op) : Type 0 where
+  pub size : length code ≡ len
+  pub op : t < length code → getD code t noOp ≡ o
+
+module _ (code : List Op) (i : ℕ) (p : Process) (m : Mailbox) where
+  -- the process with its mailbox, and what is told of answer a that was given without the messages
+  abbrev st : State
+  st = stateOf p m
+
+  abbrev heard : ℕ → Answer Effect → Answer Effect
+  heard k a = answerOf code i st (effectOf (unread p k) a)
+
+  heard-cond : (k : ℕ) (b : Bool) (x y : Answer Effect) {v w : Answer Effect} → heard k x ≡ v → heard k y ≡ w → heard k (cond b x y) ≡ cond b v w
+  heard-cond k true x y e f = e
+  heard-cond k false x y e f = f
+
+  -- ---- a run: it joins no message
+
+  abbrev bare : State
+  bare = unread p 0
+
+  abbrev Runs : Answer Effect → Answer Effect → Type 0
+  Runs x y = (heard 0 x ≡ y) × (effectOf bare x .joins ≡ false)
+
+  runs-cond : (b : Bool) (x y : Answer Effect) {v w : Answer Effect} → Runs x v → Runs y w → Runs (cond b x y) (cond b v w)
+  runs-cond true x y e f = e
+  runs-cond false x y e f = f
+
+  runs-adds : (r : ℕ) (v w : Value) → Runs (adds bare r v w) (adds st r v w)
+  runs-adds r (Int x) (Int y) = runs-cond (fitsInt (x +ℤ y)) (setsRegister bare r (Int (x +ℤ y))) (ends bare badarith) (refl, refl) (refl, refl)
+  runs-adds r (Int x) (Atom b) = (refl, refl)
+  runs-adds r (Int x) (Pid b) = (refl, refl)
+  runs-adds r (Atom a) w = (refl, refl)
+  runs-adds r (Pid a) w = (refl, refl)
+
+  runs-compares : (t : ℕ) (v w : Value) → Runs (compares bare t v w) (compares st t v w)
+  runs-compares t (Int x) (Int y) = (refl, refl)
+  runs-compares t (Int x) (Atom b) = (refl, refl)
+  runs-compares t (Int x) (Pid b) = (refl, refl)
+  runs-compares t (Atom a) w = (refl, refl)
+  runs-compares t (Pid a) w = (refl, refl)
+
+  runs-to : (v : Value) (f : State → ℕ → Answer Effect) → ((j : ℕ) → Runs (f bare j) (f st j)) → Runs (toProcess bare v (f bare)) (toProcess st v (f st))
+  runs-to (Int z) f e = (refl, refl)
+  runs-to (Atom a) f e = (refl, refl)
+  runs-to (Pid j) f e = e (j .0)
+
+  runs-other : (q : ℕ → Process) (x : Signal) (j : ℕ) → Runs (toOther i bare j (sends bare (q j) j x)) (toOther i st j (sends st (q j) j x))
+  runs-other q x j = runs-cond (eqb j i) (becomes bare (advanced p)) (sends bare (q j) j x) (refl, refl) (refl, refl)
+
+  -- two tables, entry by entry
+  abbrev EachRuns : List (Answer Effect) → List (Answer Effect) → Type 0
+  EachRuns [] [] = Unit {0}
+  EachRuns [] (y ∷ r) = ⊥
+  EachRuns (x ∷ l) [] = ⊥
+  EachRuns (x ∷ l) (y ∷ r) = Runs x y × EachRuns l r
+
+  runs-at : (l r : List (Answer Effect)) (d e : Answer Effect) → EachRuns l r → Runs d e → (k : ℕ) → Runs (getD l k d) (getD r k e)
+  runs-at [] [] d e h g zero = g
+  runs-at [] [] d e h g (suc k) = g
+  runs-at [] (y ∷ r) d e h g k = absurd h
+  runs-at (x ∷ l) [] d e h g k = absurd h
+  runs-at (x ∷ l) (y ∷ r) d e h g zero = h .0
+  runs-at (x ∷ l) (y ∷ r) d e h g (suc k) = runs-at l r d e (h .1) g k
+
+  module _ (ops : List Op) (o : Op) (stands : getD code (p .place) noOp ≡ o) where
+    abbrev r : Value
+    r = register p (o .r)
+
+    abbrev s : Value
+    s = register p (o .s)
+
+    runs-table : EachRuns (opTable ops i bare o) (opTable code i st o)
+    unfolding receives messages
+    runs-table = (
+      (refl, refl),
+      (
+        (refl, refl),
+        (
+          (refl, refl),  -- set, copy, self
+          (
+            runs-adds (o .r) r s,  -- add
+            (
+              runs-to r (λ t j. sends t (advanced p) j (Msg s)) (λ j. (refl, refl)),  -- send
+              (
+                runs-to r (λ t j. sends t (advanced p) j (Exit s false)) (λ j. (refl, refl)),  -- exit
+                (
+                  runs-to r (λ t j. toOther i t j (sends t (advanced (linked p j)) j Link)) (runs-other (λ j. advanced (linked p j)) Link),  -- link
+                  (
+                    runs-to r (λ t j. toOther i t j (sends t (advanced (unlinked p j)) j Unlink)) (runs-other (λ j. advanced (unlinked p j)) Unlink),  -- unlink
+                    (
+                      (refl, refl),
+                      (
+                        (refl, refl),  -- trap, spawn
+                        (
+                          (ap (receives code st) stands, refl),  -- recv
+                          (
+                            (refl, refl),
+                            (
+                              (refl, refl),
+                              (
+                                (refl, refl),  -- clause, jump, same
+                                (runs-compares (o .target) r s, tt),
+                              ),
+                            ),
+                          ),
+                        ),
+                      ),
+                    ),
+                  ),
+                ),
+              ),
+            ),
+          ),
+        ),
+      ),
+    )  -- less
+
+    runs-op : Runs (runsOp ops i bare o) (runsOp code i st o)
+    unfolding runsOp
+    runs-op = runs-at (opTable ops i bare o) (opTable code i st o) (ends bare r) (ends st r) runs-table (refl, refl) (o .number)
+
+  runs-closes : Runs (closes bare) (closes st)
+  unfolding closes
+  runs-closes = go (lowest (linksTo p) numbers)
+    where
+      go : (j : Option ℕ) → Runs (closesTo bare j) (closesTo st j)
+      go none = (refl, refl)
+      go (some j) = (refl, refl)
+
+  module _ (len : ℕ) (o : Op) where
+    abbrev ops : List Op
+    ops = codeAt len (p .place) o
+
+    runs-live : At code len (p .place) o → Runs (runsLive ops i bare) (runsLive code i st)
+    unfolding runsLive
+    runs-live h = rw (ops-length p len o, h .size) (go (leb len (p .place)) refl)
+      where
+        go : (b : Bool) → leb len (p .place) ≡ b → Runs (cond b (ends bare normal) (runsOp ops i bare (getD ops (p .place) noOp))) (cond b (ends st normal) (runsOp code i st (getD code (p .place) noOp)))
+        go true e = (refl, refl)
+        go false e =
+            let inside : p .place < len = leb-false len (p .place) e in
+            let here : getD code (p .place) noOp ≡ o = h .op (omega (arith, inside, h .size)) in
+            let t = runs-op ops o here in
+            rw (ops-op p len o inside) (t .0 ∙ ap (runsOp code i st) (sym here), t .1)
+
+    runs-in : (s : Stage) → (s ≡ Live → At code len (p .place) o) → Runs (runsIn s ops i bare) (runsIn s code i st)
+    runs-in Unborn h = (refl, refl)
+    runs-in Live h = runs-live (h refl)
+    runs-in Closing h = runs-closes
+    runs-in Gone h = (refl, refl)
+
+  -- ---- an arrival
+
+  abbrev k : ℕ
+  k = m .count
+
+  abbrev counted : State
+  counted = unread p k
+
+  heard-becomes : (q : Process) → heard k (becomes counted q) ≡ becomes st q
+  heard-becomes q = rw (le-ltb k k (omega arith))
+
+  heard-joins : (q : Process) (x : Message) → heard k (joinsWith counted q x) ≡ joinsWith st q x
+  unfolding joined
+  heard-joins q x = go (ltb k 16) refl
+    where
+      go : (b : Bool) → ltb k 16 ≡ b → heard k (need b mailboxFull (done (record { process = q; mail = joined (counted .mail) x; sent = none; born = none }))) ≡ need b mailboxFull (done (record { process = q; mail = joined m x; sent = none; born = none }))
+      go true e =
+          let h : k < 16 = ltb-true k 16 e in
+          let l : k < min (k + 1) 255 = omega arith in
+          rw (lt-ltb k (min (k + 1) 255) l, getD-set-same (emptyMailbox .slots) k (record { message = x }) noMessage h)
+      go false e = refl
+
+  module _ (j : ℕ) where
+    heard-exits : (v : Value) (b : Bool) → heard k (exits i j counted v b) ≡ exits i j st v b
+    unfolding exits
+    heard-exits v b =
+        heard-cond k (b && not (linksTo p j)) _ _ (heard-becomes p)
+        (heard-cond k (not b && sameValue v kill) _ _ (heard-becomes _)
+        (heard-cond k (p .trap) _ _ (heard-joins _ _)
+        (heard-cond k (sameValue v normal && not (eqb j i)) _ _ (heard-becomes p) (heard-becomes _))))
+
+    heard-takes : (x : Signal) → heard k (takes i j counted x) ≡ takes i j st x
+    heard-takes (Msg v) = heard-joins p _
+    heard-takes (Exit v b) = heard-exits v b
+    heard-takes Link = heard-becomes _
+    heard-takes Unlink = heard-becomes _
+
+    heard-arrives : (s : Stage) (x : Signal) → heard k (arrivesIn s i j counted x) ≡ arrivesIn s i j st x
+    heard-arrives Unborn x = refl
+    heard-arrives Live x = heard-takes x
+    heard-arrives Closing x = heard-becomes p
+    heard-arrives Gone x = heard-becomes p
+
+-- a run whose length and op are those of its code
+module _ (code : List Op) (i : ProcessNumber) (p : Process) (len : ℕ) (o : Op) (stands : p .stage ≡ Live → At code len (p .place) o) where
+  pub run-means : (m : Mailbox) → answerOf code (i .0) (stateOf p m) (ran i p len o) ≡ runs code (i .0) (stateOf p m)
+  unfolding ran runs
+  run-means m = runs-in code (i .0) p m len o (p .stage) stands .0
+
+  pub run-joins-none : ran i p len o .joins ≡ false
+  unfolding ran runs
+  run-joins-none = runs-in code (i .0) p noMailbox len o (p .stage) stands .1
+
+-- an arrival at a mailbox that has as many messages as were told
+pub arrival-means : (code : List Op) (i j : ProcessNumber) (p : Process) (m : Mailbox) (x : Signal) → answerOf code (i .0) (stateOf p m) (arrived i j p (m .count) x) ≡ arrives (i .0) (j .0) (stateOf p m) x
+unfolding arrived arrives
+arrival-means code i j p m x = heard-arrives code (i .0) p m (j .0) (p .stage) x
+
+-- ---- what an arrival leaves out
+
+module _ (i j : ℕ) (p : Process) (k : ℕ) where
+  abbrev Quiet : Answer Effect → Type 0
+  Quiet a = let e = effectOf (unread p k) a in (e .receives ≡ false) × (e .sends ≡ false) × (e .spawns ≡ false)
+
+  quiet-cond : (b : Bool) (x y : Answer Effect) → Quiet x → Quiet y → Quiet (cond b x y)
+  quiet-cond true x y g h = g
+  quiet-cond false x y g h = h
+
+  quiet-joins : (q : Process) (x : Message) → Quiet (joinsWith (unread p k) q x)
+  quiet-joins q x = go (ltb k 16)
+    where
+      go : (b : Bool) → Quiet (need b mailboxFull (done (record { process = q; mail = joined (unread p k .mail) x; sent = none; born = none })))
+      go true = (refl, refl, refl)
+      go false = (refl, refl, refl)
+
+  quiet-takes : (x : Signal) → Quiet (takes i j (unread p k) x)
+  unfolding exits
+  quiet-takes (Msg v) = quiet-joins p _
+  quiet-takes (Exit v b) =
+      quiet-cond (b && not (linksTo p j)) _ _ (refl, refl, refl)
+      (quiet-cond (not b && sameValue v kill) _ _ (refl, refl, refl)
+      (quiet-cond (p .trap) _ _ (quiet-joins _ _)
+      (quiet-cond (sameValue v normal && not (eqb j i)) _ _ (refl, refl, refl) (refl, refl, refl))))
+  quiet-takes Link = (refl, refl, refl)
+  quiet-takes Unlink = (refl, refl, refl)
+
+  quiet-arrives : (s : Stage) (x : Signal) → Quiet (arrivesIn s i j (unread p k) x)
+  quiet-arrives Unborn x = (refl, refl, refl)
+  quiet-arrives Live x = quiet-takes x
+  quiet-arrives Closing x = (refl, refl, refl)
+  quiet-arrives Gone x = (refl, refl, refl)
+
+pub arrival-quiet : (i j : ProcessNumber) (p : Process) (k : ℕ) (x : Signal) → (arrived i j p k x .receives ≡ false) × (arrived i j p k x .sends ≡ false) × (arrived i j p k x .spawns ≡ false)
+unfolding arrived arrives
+arrival-quiet i j p k x = quiet-arrives (i .0) (j .0) p k (p .stage) x
