@@ -37,10 +37,10 @@ module _ (code : List Op) (i : ℕ) (st : State) where
       live true l e h = absurd (not-25 (ends st normal) tt h)
       live false l e h =
           let o = getD code (st .process .place) noOp in
-          record { live = l; inside = leb-false (length code) (st .process .place) e; recv = subst (Told (λ m. (m ≡ 25) × (o .number ≡ 10))) h (op-told code i st o) .1 }
+          record { live = l; inside = leb-false (length code) (st .process .place) e; recv = subst (Told (λ m. (m ≡ 25) × (o .number ≡ 10))) h (op-shown code i st o .told) .1 }
 
       go : (s : Stage) → st .process .stage ≡ s → runsIn s code i st ≡ refused 25 → AtRecv
       go Unborn e h = absurd (not-25 (refused 21) (omega arith) h)
       go Live e h = live (leb (length code) (st .process .place)) e refl h
-      go Closing e h = absurd (not-25 (closes st) (closes-told code i st (λ m. m < 25)) h)
+      go Closing e h = absurd (not-25 (closes st) (closes-told st (λ m. m < 25)) h)
       go Gone e h = absurd (not-25 (refused 22) (omega arith) h)

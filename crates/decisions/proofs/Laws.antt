@@ -1,36 +1,34 @@
 -- Two values by whether both are integers; what the last arm of a match knows; an op by its number; what is said of a process with messages; the
 -- lowest link. Assumes nothing.
 use mathlib.Core.Bool.{Bool, true, false, cond, _&&_, false≢true}
-use mathlib.Core.List.{List, [], _∷_}
+use mathlib.Core.List.{List, []}
 use mathlib.Core.Option.{none, some}
 use mathlib.Core.Path.{_≡_, refl, sym, _∙_, ap}
 use Prim.Native.Nat.{ℕ, zero, suc, _+_, _-_, _≤_, _<_, min}
-use native.Mathlib.Numerals.{add-one}
 use native.Mathlib.Omega.{arith}
 use borrow.Author.Tests.{ltb-true, ltb-false, lt-leb, le-leb, lt-ltb, le-ltb}
 use lib.Dec.{ltb}
 use lib.IntN.{ℤ}
-use lib.ListN.{length, getD, set, replicate, drop, length-set, length-replicate, drop-of-length-le, List·getD-eq-default}
-use lib.Seq.{drop-cons, getD-set-same}
+use lib.ListN.{length, getD, replicate, length-set, length-replicate, List·getD-eq-default}
+use lib.Seq.{getD-set-same}
 use Rattle.node.specs.declared.Message.{Message}
 use Rattle.node.specs.declared.Op.{Op}
 use Rattle.node.specs.declared.Process.{Process}
 use Rattle.node.specs.declared.ProcessNumber.{ProcessNumber}
 use Rattle.node.specs.declared.Signal.{Signal}
+use Rattle.node.specs.declared.Signal.the-variants.{Exit}
 use Rattle.node.specs.declared.Stage.{Stage}
 use Rattle.node.specs.Mailboxes.{noMessage, emptyMailbox, messages, joined}
 use Rattle.node.specs.Nodes.{noOp}
-use Rattle.node.specs.Processes.{register, linksTo, ended}
+use Rattle.node.specs.Processes.{register, unlinked, ended}
 use Rattle.node.specs.declared.Value.{Value}
 use Rattle.node.specs.declared.Value.the-variants.{Int, Atom, Pid}
 use Rattle.node.specs.Values.{normal, badarg, badarith}
 use Rattle.rules.specs.Answers.{Answer}
 use Rattle.rules.specs.Arrive.{joinsWith, arrivesIn, arrives}
-use Rattle.rules.specs.Effects.{State, Effect, becomes, ends}
+use Rattle.rules.specs.Effects.{State, Effect, becomes, ends, sends}
 use Rattle.rules.specs.Receive.{receives}
-use Rattle.rules.specs.Run.{adds, compares, opTable, runsOp, runsLive, runsIn, runs, lowest}
-use Rattle.rules.specs.Values.{numbers}
-use Rattle.rules.proofs.All.{rising-at}
+use Rattle.rules.specs.Run.{adds, compares, opTable, runsOp, runsLive, runsIn, runs, closesTo}
 use Rattle.decisions.specs.Answers.{unread, tells, refusesEffect, becomesEffect, effectOf, says, ranOp, codeAt, ran, arrived, integersOf}
 use Rattle.decisions.specs.declared.Pair.the-variants.{Not, Both}
 
@@ -142,23 +140,6 @@ comes-at i j p k x e = sym (ap (λ (s : Stage). says p k (λ st. arrivesIn s (i 
 
 -- ---- the lowest link
 
-module _ (p : Process) (k : ℕ) where
-  number-at : k < 16 → drop k numbers ≡ (k + 1) ∷ drop (k + 1) numbers
-  number-at h =
-      let e : 1 + k ≡ k + 1 = omega arith in
-      drop-cons numbers k 0 (omega arith) ∙ rw (rising-at 1 16 k 0 h, e, add-one)
-
-  link-at : linksTo p (k + 1) ≡ getD (p .links) k false
-  unfolding linksTo
-  link-at = let e : k + 1 - 1 ≡ k = omega arith in rw e
-
-  -- the first of the numbers that are left is a link
-  pub lowest-here : k < 16 → getD (p .links) k false ≡ true → lowest (linksTo p) (drop k numbers) ≡ some (k + 1)
-  lowest-here h e = rw (number-at h, link-at, e)
-
-  -- or it is none
-  pub lowest-next : k < 16 → getD (p .links) k false ≡ false → lowest (linksTo p) (drop k numbers) ≡ lowest (linksTo p) (drop (k + 1) numbers)
-  lowest-next h e = rw (number-at h, link-at, e)
-
-  pub lowest-none : 16 ≤ k → lowest (linksTo p) (drop k numbers) ≡ none
-  lowest-none h = rw (drop-of-length-le numbers {i = k} h)
+pub closes-to : (st : State) (j : ℕ) → (j ≡ 0 → ⊥) → closesTo st j ≡ sends st (unlinked (st .process) j) j (Exit (st .process .reason) true)
+closes-to st zero h = absurd (h refl)
+closes-to st (suc j) h = refl

@@ -6,7 +6,7 @@
 --   arrival-quiet    an arrival searches no mailbox, sends nothing and brings nobody to life
 use mathlib.Core.Bool.{Bool, true, false, cond, not, _&&_}
 use mathlib.Core.List.{List, [], _∷_}
-use mathlib.Core.Option.{Option, none, some}
+use mathlib.Core.Option.{none}
 use mathlib.Core.Path.{_≡_, refl, sym, _∙_, ap}
 use Prim.Native.Nat.{ℕ, zero, suc, _+_, _<_, min}
 use native.Mathlib.Omega.{arith}
@@ -29,13 +29,14 @@ use Rattle.node.specs.declared.Value.the-variants.{Int, Atom, Pid}
 use Rattle.node.specs.Mailboxes.{noMessage, emptyMailbox, messages, joined}
 use Rattle.node.specs.Nodes.{noOp, noMailbox}
 use Rattle.node.specs.Processes.{register, advanced, linksTo, linked, unlinked}
+use Rattle.node.specs.Sets.{lowestPeer}
 use Rattle.node.specs.Values.{normal, kill, badarith}
 use Rattle.rules.specs.Answers.{Answer, done, need, mailboxFull}
 use Rattle.rules.specs.Arrive.{joinsWith, exits, takes, arrivesIn, arrives}
 use Rattle.rules.specs.Effects.{State, Effect, becomes, ends, sends}
 use Rattle.rules.specs.Receive.{receives}
-use Rattle.rules.specs.Run.{setsRegister, adds, compares, toProcess, toOther, opTable, runsOp, lowest, closesTo, closes, runsLive, runsIn, runs}
-use Rattle.rules.specs.Values.{numbers, fitsInt, sameValue}
+use Rattle.rules.specs.Run.{setsRegister, adds, compares, toProcess, toOther, opTable, runsOp, closesTo, closes, runsLive, runsIn, runs}
+use Rattle.rules.specs.Values.{fitsInt, sameValue}
 use Rattle.decisions.proofs.Laws.{ops-length, ops-op}
 use Rattle.decisions.specs.Answers.{stateOf, unread, effectOf, codeAt, ran, arrived, answerOf}
 
@@ -164,11 +165,11 @@ module _ (code : List Op) (i : ℕ) (p : Process) (m : Mailbox) where
 
   runs-closes : Runs (closes bare) (closes st)
   unfolding closes
-  runs-closes = go (lowest (linksTo p) numbers)
+  runs-closes = go (lowestPeer (p .links))
     where
-      go : (j : Option ℕ) → Runs (closesTo bare j) (closesTo st j)
-      go none = (refl, refl)
-      go (some j) = (refl, refl)
+      go : (j : ℕ) → Runs (closesTo bare j) (closesTo st j)
+      go zero = (refl, refl)
+      go (suc j) = (refl, refl)
 
   module _ (len : ℕ) (o : Op) where
     abbrev ops : List Op

@@ -377,18 +377,12 @@ fn close(p: Process) -> Effect
     ensures { λ e. ⌜ e ≡ says p 0 closes ⌝ }
 {
     let links = p.links;
-    let mut k: u8 = 0;
-    while k < 16 {
-        let at = k as usize;
-        let here = links[at];
-        if here {
-            let j = ProcessNumber(k + 1);
-            let v = p.reason;
-            return Effect::sends(p.unlinked(j), j, Signal::Exit(v, true));
-        }
-        k += 1;
+    let j = links.lowest();
+    if j.0 == 0 {
+        return Effect::becomes(p.gone());
     }
-    Effect::becomes(p.gone())
+    let v = p.reason;
+    Effect::sends(p.unlinked(j), j, Signal::Exit(v, true))
 }
 
 // A live process whose code has len ops, at op.
