@@ -37,7 +37,8 @@ use Rattle.rules.specs.Receive.{receives}
 use Rattle.rules.specs.Run.{setsRegister, adds, compares, toProcess, toOther, opTable, runsOp, lowest, closesTo, closes, runsLive, runsIn, runs}
 use Rattle.rules.specs.Values.{numbers, fitsInt, sameValue}
 use Rattle.decisions.proofs.Laws.{ops-length, ops-op}
-use Rattle.decisions.specs.Answers.{stateOf, unread, effectOf, codeAt, ran, arrived, answerOf}
+use Rattle.receive.specs.Answers.{stateOf}
+use Rattle.decisions.specs.Answers.{unread, effectOf, codeAt, ran, arrived, answerOf}
 
 -- the code has len ops, and o stands at place t where t is not its end
 pub record At (code : List Op) (len t : ℕ) (o : Op) : Type 0 where
