@@ -9,7 +9,7 @@ use borrow.Author.Tests.{not-true, not-false, eq-eqb, ne-eqb, lt-ltb, le-ltb}
 use lib.ListN.{length, getD, set, take, drop, length-take, length-drop}
 use lib.Seq.{ext-getD, getD-take, getD-drop}
 use Rattle.decisions.specs.declared.Effect.{Effect}
-use Rattle.decisions.specs.Answers.{stateOf, mailOf, sentOf, bornOf, ran, arrived, answerOf}
+use Rattle.decisions.specs.Answers.{mailOf, sentOf, bornOf, ran, arrived, answerOf}
 use Rattle.decisions.proofs.Meanings.{At, run-means, run-joins-none, arrival-means, arrival-quiet}
 use Rattle.node.proofs.Lists.{map-rising-at}
 use Rattle.node.specs.declared.Mailbox.{Mailbox}
@@ -25,7 +25,7 @@ use Rattle.node.specs.Processes.{fresh}
 use Rattle.node.specs.Rows.{oldest, pushed, popped}
 use Rattle.node.specs.Values.{pid}
 use Rattle.receive.specs.declared.Received.{Received}
-use Rattle.receive.specs.Answers.{received}
+use Rattle.receive.specs.Answers.{stateOf, received}
 use Rattle.receive.proofs.Laws.{received-refused, received-done}
 use Rattle.rules.specs.Answers.{refused, done}
 use Rattle.rules.specs.Effects as effects

@@ -38,7 +38,8 @@ use Rattle.rules.specs.Receive.{receives}
 use Rattle.rules.specs.Run.{setsRegister, adds, compares, toProcess, toOther, opTable, runsOp, closesTo, closes, runsLive, runsIn, runs}
 use Rattle.rules.specs.Values.{fitsInt, sameValue}
 use Rattle.decisions.proofs.Laws.{ops-length, ops-op}
-use Rattle.decisions.specs.Answers.{stateOf, unread, effectOf, codeAt, ran, arrived, answerOf}
+use Rattle.receive.specs.Answers.{stateOf}
+use Rattle.decisions.specs.Answers.{unread, effectOf, codeAt, ran, arrived, answerOf}
 
 -- the code has len ops, and o stands at place t where t is not its end
 pub record At (code : List Op) (len t : ℕ) (o : Op) : Type 0 where
@@ -179,7 +180,8 @@ module _ (code : List Op) (i : ℕ) (p : Process) (m : Mailbox) where
     unfolding runsLive
     runs-live h = rw (ops-length p len o, h .size) (go (leb len (p .place)) refl)
       where
-        go : (b : Bool) → leb len (p .place) ≡ b → Runs (cond b (ends bare normal) (runsOp ops i bare (getD ops (p .place) noOp))) (cond b (ends st normal) (runsOp code i st (getD code (p .place) noOp)))
+        go : (b : Bool) → leb len (p .place) ≡ b →
+            Runs (cond b (ends bare normal) (runsOp ops i bare (getD ops (p .place) noOp))) (cond b (ends st normal) (runsOp code i st (getD code (p .place) noOp)))
         go true e = (refl, refl)
         go false e =
             let inside : p .place < len = leb-false len (p .place) e in
@@ -208,7 +210,8 @@ module _ (code : List Op) (i : ℕ) (p : Process) (m : Mailbox) where
   unfolding joined
   heard-joins q x = go (ltb k 16) refl
     where
-      go : (b : Bool) → ltb k 16 ≡ b → heard k (need b mailboxFull (done (record { process = q; mail = joined (counted .mail) x; sent = none; born = none }))) ≡ need b mailboxFull (done (record { process = q; mail = joined m x; sent = none; born = none }))
+      go : (b : Bool) → ltb k 16 ≡ b →
+          heard k (need b mailboxFull (done (record { process = q; mail = joined (counted .mail) x; sent = none; born = none }))) ≡ need b mailboxFull (done (record { process = q; mail = joined m x; sent = none; born = none }))
       go true e =
           let h : k < 16 = ltb-true k 16 e in
           let l : k < min (k + 1) 255 = omega arith in
@@ -247,7 +250,8 @@ module _ (code : List Op) (i : ProcessNumber) (p : Process) (len : ℕ) (o : Op)
   run-joins-none = runs-in code (i .0) p noMailbox len o (p .stage) stands .1
 
 -- an arrival at a mailbox that has as many messages as were told
-pub arrival-means : (code : List Op) (i j : ProcessNumber) (p : Process) (m : Mailbox) (x : Signal) → answerOf code (i .0) (stateOf p m) (arrived i j p (m .count) x) ≡ arrives (i .0) (j .0) (stateOf p m) x
+pub arrival-means : (code : List Op) (i j : ProcessNumber) (p : Process) (m : Mailbox) (x : Signal) →
+    answerOf code (i .0) (stateOf p m) (arrived i j p (m .count) x) ≡ arrives (i .0) (j .0) (stateOf p m) x
 unfolding arrived arrives
 arrival-means code i j p m x = heard-arrives code (i .0) p m (j .0) (p .stage) x
 

@@ -1,16 +1,20 @@
 -- What the answers of this crate mean in the rules of document 01. A decision reads the process, and of its mailbox only how many messages it
--- holds; it answers with a record of the code, each part of which stands behind a flag.
+-- holds; it answers with a record of the code, in which a message, a sending and a birth stand behind flags.
 --   unread p k             what a decision knows of its owner: process p, with a mailbox of k messages that are not looked at
 --   tells ..               the record that tells a refusal (0 if none), the next process, whether the mailbox is to be searched, which message
 --                          joins, what is sent and who is brought to life; where there is none of these, its fields are blank
+--   refusesEffect, becomesEffect, searchesEffect, sendsEffect   four such records by name
+--   newest k m             the message that stands behind k others in mailbox m
 --   effectOf st a          the record that tells answer a of the rules, of a process in state st
 --   says p k f             the record that tells what rule f answers for process p with k messages
 --   ranOp i p o            what a run of process i at op o says
+--   codeAt len t o         a code of len ops, with o at place t
 --   ran i p len o          what a run of process i, whose code has len ops and which is at op o, says
---   arrived i j p k x      what the arrival of signal x from j says
+--   arrived i j p k x      what the arrival at process i of signal x from j says
+--   mailOf, sentOf, bornOf the mailbox behind a record, what it sends, and whom it brings to life
 --   answerOf code i st e   the rules' answer that record e tells of process i, in state st and with its code: of a run and of an arrival
--- And of two private functions:
---   sumOf z, integersOf v w
+--   sumOf z                the sum of two integers, where it is one too
+--   integersOf v w         two values, where both are integers
 use mathlib.Core.Bool.{Bool, true, false, cond}
 use mathlib.Core.List.{List, []}
 use mathlib.Core.Option.{Option, none, some, Option·getD}
@@ -31,6 +35,7 @@ use Rattle.node.specs.Mailboxes.{noMessage, emptyMailbox, joined}
 use Rattle.node.specs.Nodes.{noOp, noProcess}
 use Rattle.node.specs.Processes.{fresh}
 use Rattle.node.specs.Values.{intZero, pid}
+use Rattle.receive.specs.Answers.{stateOf}
 use Rattle.rules.specs.Answers.{Answer, refused, done, noFit}
 use Rattle.rules.specs.Arrive.{arrives}
 use Rattle.rules.specs.Effects.{State, Sending, Birth}
@@ -42,9 +47,6 @@ use Rattle.decisions.specs.declared.Pair.{Pair}
 use Rattle.decisions.specs.declared.Pair.the-variants.{Not, Both}
 use Rattle.decisions.specs.declared.Sum.{Sum}
 use Rattle.decisions.specs.declared.Effect.{Effect}
-
-abbrev pub stateOf : Process → Mailbox → State
-stateOf p m = record { process = p; mail = m }
 
 abbrev pub unread : Process → ℕ → State
 unread p k = stateOf p (record { slots = emptyMailbox .slots; count = k })
@@ -108,7 +110,6 @@ says p k f = effectOf (unread p k) (f (unread p k))
 unfoldable pub ranOp : ProcessNumber → Process → Op → Effect
 ranOp i p o = says p 0 (λ st. runsOp [] (i .0) st o)
 
--- a code of len ops, with o at place t
 abbrev pub codeAt : ℕ → ℕ → Op → List Op
 codeAt len t o = set (replicate len noOp) t o
 
@@ -135,13 +136,9 @@ answerOf code i st e =
     (cond (eqb (e .refusal) 0) (done (record { process = e .process; mail = mailOf (st .mail) e; sent = sentOf e; born = bornOf i e }))
     (refused (e .refusal)))
 
--- ---- two integers
-
--- the sum z of two integers, where it is one too
 abbrev pub sumOf : ℤ → Sum
 sumOf z = cond (fitsInt z) (record { fits = true; total = Int z }) (record { fits = false; total = intZero })
 
--- two values, where both are integers
 abbrev pub integersOf : Value → Value → Pair
 integersOf (Int x) (Int y) = Both x y
 integersOf (Int x) (Atom b) = Not

@@ -7,7 +7,7 @@ ghost use lib.IntN.{_+ℤ_};
 ghost use Rattle.node.specs.declared.Signal.the-variants.{Msg, Exit, Link, Unlink};
 ghost use Rattle.node.specs.declared.Value.the-variants.{Int};
 ghost use Rattle.node.specs.Processes.{register, moved, advanced, trapped, linked, unlinked, ended};
-ghost use Rattle.node.specs.Values.{pid, normal, badarg};
+ghost use Rattle.node.specs.Values.{pid, normal, kill, badarg};
 ghost use Rattle.rules.specs.Effects.{becomes, ends, sends};
 ghost use Rattle.rules.specs.Run.{setsRegister, jumpsIf, adds, compares, toProcess, toOther, spawns, closes, runsLive};
 ghost use Rattle.rules.specs.Arrive.{joinsWith, notes, exits, takes};
@@ -451,6 +451,14 @@ fn note(j: ProcessNumber, p: Process, count: u8, v: Value, b: bool) -> Effect
     join(p, count, Message::Note(j, v))
 }
 
+// Line 2: the reason is kill, and the signal came along no link.
+fn kills(v: Value, b: bool) -> bool
+    ensures { λ r. ⌜ r ≡ (not b && sameValue v kill) ⌝ }
+{
+    let kill = same_value(v, Value::KILL);
+    both(!b, kill)
+}
+
 // Line 4: the reason is normal, and j is not i.
 fn drops_normal(i: ProcessNumber, j: ProcessNumber, v: Value) -> bool
     ensures { λ r. ⌜ r ≡ (sameValue v normal && not (eqb (j .0) (i .0))) ⌝ }
@@ -468,8 +476,7 @@ fn exit(i: ProcessNumber, j: ProcessNumber, p: Process, count: u8, v: Value, b: 
     if both(b, !linked) {
         return Effect::becomes(p);
     }
-    let kill = same_value(v, Value::KILL);
-    if both(!b, kill) {
+    if kills(v, b) {
         return Effect::becomes(p.ended(Value::KILLED));
     }
     let trap = p.trap;

@@ -22,7 +22,8 @@ use Rattle.node.proofs.Process.{the-type as process-type}
 use Rattle.node.proofs.Row.{the-type as row-type}
 
 -- a test that each value of a struct type passes by its type is passed by all elements of an array of them
-pub each-passes : (T : Declared) (f : T .D → Bool) → ((x : T .D) (vs : List Val) → shadow (row T .own x vs) → So (f x)) → (xs : List (T .D)) (us : List Val) → shadow (each (field T .row .Denot) (field T .row .own) (map (T .to) xs) us) → So (allOf f xs)
+pub each-passes : (T : Declared) (f : T .D → Bool) → ((x : T .D) (vs : List Val) → shadow (row T .own x vs) → So (f x)) →
+    (xs : List (T .D)) (us : List Val) → shadow (each (field T .row .Denot) (field T .row .own) (map (T .to) xs) us) → So (allOf f xs)
 each-passes T f h [] us g = refl
 each-passes T f h (x ∷ xs) [] g = absurd g
 each-passes T f h (x ∷ xs) (u ∷ us) g = and-eq-true-iff (f x) (allOf f xs) .1 (h x _ (g .0), each-passes T f h xs us (g .1))

@@ -80,7 +80,8 @@ module _ (clause : ℕ → Op) (message : ℕ → Message) where
   abbrev Reads : List Op → ℕ → Type 0
   Reads cs k = (j : ℕ) → j < length cs → clause (k + j) ≡ getD cs j noOp
 
-  first-cond : (b : Bool) (k i : ℕ) (c : Op) (x : Answer Indices) {y : Option Fit} → clause k ≡ c → fitBy x ≡ y → fitBy (cond b (done (record { message = i; clause = k })) x) ≡ cond b (some (record { index = i; message = message i; clause = c })) y
+  first-cond : (b : Bool) (k i : ℕ) (c : Op) (x : Answer Indices) {y : Option Fit} → clause k ≡ c → fitBy x ≡ y →
+      fitBy (cond b (done (record { message = i; clause = k })) x) ≡ cond b (some (record { index = i; message = message i; clause = c })) y
   first-cond true k i c x here e = rw here
   first-cond false k i c x here e = e
 

@@ -13,7 +13,7 @@ use Prim.Native.Nat.{ℕ, zero, suc, _≤_, _<_}
 use native.Mathlib.Omega.{arith}
 use borrow.Author.Tests.{eqb-true}
 use lib.Dec.{eqb}
-use lib.ListN.{take, drop}
+use lib.ListN.{length, take, drop}
 use Rattle.node.specs.declared.Node.{Node}
 use Rattle.node.specs.declared.Stage.{Stage}
 use Rattle.node.specs.declared.Stage.the-variants.{Unborn, Live, Closing, Gone}
@@ -71,10 +71,17 @@ calls-stay-sound k n s (single a ∷ cs) = calls-stay-sound k (nodeBehind n (ste
 
 -- ---- PlayIsSteps
 
+-- what PlayIsSteps says of l
+abbrev Said : Node → List Action → Type 0
+Said n l =
+    (play n l .accepted ≤ length l) ×
+    Runs step n (take (play n l .accepted) l) (play n l .node) ×
+    Stopped (play n l .node) (drop (play n l .accepted) l) (play n l .refusal)
+
 pub play-none : PlayIsSteps → (n : Node) → Sound n → (play n [] .node ≡ n) × (play n [] .accepted ≡ 0) × (play n [] .refusal ≡ 0)
 play-none p n s = go (play n [] .accepted) (w .0) (w .1) (w .2)
   where
-    w : (play n [] .accepted ≤ 0) × Runs step n (take (play n [] .accepted) []) (play n [] .node) × Stopped (play n [] .node) (drop (play n [] .accepted) []) (play n [] .refusal)
+    w : Said n []
     w = p n [] s (omega arith)
 
     go : (k : ℕ) → k ≤ 0 → Runs step n (take k []) (play n [] .node) → Stopped (play n [] .node) (drop k []) (play n [] .refusal) → (play n [] .node ≡ n) × (k ≡ 0) × (play n [] .refusal ≡ 0)
@@ -89,7 +96,7 @@ One n a (done l) k r m = (k ≡ 1) × (r ≡ 0) × (m ≡ l)
 pub play-one : PlayIsSteps → (n : Node) (a : Action) → Sound n → One n a (step n a) (play n (a ∷ []) .accepted) (play n (a ∷ []) .refusal) (play n (a ∷ []) .node)
 play-one p n a s = go (step n a) refl (play n (a ∷ []) .accepted) (play n (a ∷ []) .refusal) (play n (a ∷ []) .node) (w .0) (w .1) (w .2)
   where
-    w : (play n (a ∷ []) .accepted ≤ 1) × Runs step n (take (play n (a ∷ []) .accepted) (a ∷ [])) (play n (a ∷ []) .node) × Stopped (play n (a ∷ []) .node) (drop (play n (a ∷ []) .accepted) (a ∷ [])) (play n (a ∷ []) .refusal)
+    w : Said n (a ∷ [])
     w = p n (a ∷ []) s (omega arith)
 
     go : (x : Answer Node) → step n a ≡ x → (k r : ℕ) (m : Node) → k ≤ 1 → Runs step n (take k (a ∷ [])) m → Stopped m (drop k (a ∷ [])) r → One n a x k r m
@@ -110,11 +117,13 @@ refused-cause n a k s x y z h = decided (decide n a) refl (rw (x, y, z) at (sym 
     freed e d true f g = absurd (let z : _≡_ {A = ℕ} 0 1 = cc g in omega arith)
     freed e d false f g = let q : notUnborn ≡ k = cc g in subst (Cause n a) q (taken d f)
 
-    roomy : (e : Effect) → decide n a ≡ done e → (b : Bool) → pairHasRoom n (owner a) (e .sent) ≡ b → goOn (need b pairFull (done e)) (λ e. need (numberFree n (e .born)) notUnborn (done (commit n a e))) ≡ refused k → Cause n a k
+    roomy : (e : Effect) → decide n a ≡ done e → (b : Bool) → pairHasRoom n (owner a) (e .sent) ≡ b →
+        goOn (need b pairFull (done e)) (λ e. need (numberFree n (e .born)) notUnborn (done (commit n a e))) ≡ refused k → Cause n a k
     roomy e d true f g = freed e d (numberFree n (e .born)) refl g
     roomy e d false f g = let q : pairFull ≡ k = cc g in subst (Cause n a) q (full d f)
 
-    decided : (x : Answer Effect) → decide n a ≡ x → goOn (goOn x (λ e. need (pairHasRoom n (owner a) (e .sent)) pairFull (done e))) (λ e. need (numberFree n (e .born)) notUnborn (done (commit n a e))) ≡ refused k → Cause n a k
+    decided : (x : Answer Effect) → decide n a ≡ x →
+        goOn (goOn x (λ e. need (pairHasRoom n (owner a) (e .sent)) pairFull (done e))) (λ e. need (numberFree n (e .born)) notUnborn (done (commit n a e))) ≡ refused k → Cause n a k
     decided (refused j) d g = let q : j ≡ k = cc g in undecided (rw q at d)
     decided (done e) d g = roomy e d (pairHasRoom n (owner a) (e .sent)) refl g
 

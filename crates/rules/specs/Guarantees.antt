@@ -39,7 +39,9 @@ Stopped n (a ∷ l) k = step n a ≡ refused k
 abbrev pub PlayIsSteps : Type 0
 PlayIsSteps =
     (n : Node) (l : List Action) → Sound n → length l ≤ 4096 →
-    (play n l .accepted ≤ length l) × Runs step n (take (play n l .accepted) l) (play n l .node) × Stopped (play n l .node) (drop (play n l .accepted) l) (play n l .refusal)
+    (play n l .accepted ≤ length l) ×
+    Runs step n (take (play n l .accepted) l) (play n l .node) ×
+    Stopped (play n l .node) (drop (play n l .accepted) l) (play n l .refusal)
 
 -- why a step that passes 20, 21 and 23 is refused: the decision says so (22, 24, 25), or 26, or 27
 pub data Cause (n : Node) (a : Action) : ℕ → Type 0 where

@@ -95,7 +95,9 @@ told-at c lens ops ps ms k at there h s ea et =
 
 -- a node that code holds has its arrays in full
 pub shaped-node : (n : Node) {vs : List Val} → shadow (row node-type .own n vs) → So (shaped n)
-shaped-node n g = let z = sized-node n g in of-sized n (record { lens = z .lens; ops = z .ops; processes = z .processes; mail = z .mail; slots = z .slots; flight = z .flight; cells = z .cells })
+shaped-node n g =
+    let z = sized-node n g in
+    of-sized n (record { lens = z .lens; ops = z .ops; processes = z .processes; mail = z .mail; slots = z .slots; flight = z .flight; cells = z .cells })
 
 pub sound-by : (n : Node) → So (shaped n) → sound n ≡ (leb 1 (n .count) && leb (n .count) 8 && allOf (codeSound (n .count)) (codesIn (n .count) (n .lens) (n .ops)) && allFrom (standingSound (codesIn (n .count) (n .lens) (n .ops))) 1 (standingsIn (n .processes) (n .mail)) && allFrom (λ j rows. allFrom (rowSound j) 1 rows) 1 (flightIn (n .flight)))
 unfolding sound viewSound view behavioursOf code codesIn codeIn standingsIn flightIn

@@ -26,11 +26,8 @@ returns c =
     its-becomes .ensures ∙ says-becomes (its-args .p) (its-args .p) (its-args .count)
     ∙ rw (← its-links-to .ensures, ← its-both .ensures, its-if1 .taken)
 
-same-value-requires : tie.Need-same-value-requires
-same-value-requires c κs = search needs
-
-both-requires-2 : tie.Need-both-requires-2
-both-requires-2 c κs = search needs
+kills-requires : tie.Need-kills-requires
+kills-requires c κs = search needs
 
 ended-requires : tie.Need-ended-requires
 ended-requires c κs = search needs
@@ -43,15 +40,14 @@ unfolding exits
 returns-2 c =
     let its-becomes2 = c .becomes2 in
     let its-ended = c .before .ended in
-    let its-args = c .before .before .before .before .before .before .before .before .args in
-    let its-links-to = c .before .before .before .before .before .before .before .links-to in
-    let its-both = c .before .before .before .before .before .before .both in
-    let its-if1 = c .before .before .before .before .before .if1 in
-    let its-same-value = c .before .before .before .before .same-value in
-    let its-both2 = c .before .before .before .both2 in
+    let its-args = c .before .before .before .before .before .before .before .args in
+    let its-links-to = c .before .before .before .before .before .before .links-to in
+    let its-both = c .before .before .before .before .before .both in
+    let its-if1 = c .before .before .before .before .if1 in
+    let its-kills = c .before .before .before .kills in
     let its-if2 = c .before .before .if2 in
     its-becomes2 .ensures ∙ says-becomes (its-args .p) (its-ended .result) (its-args .count)
-    ∙ rw (its-ended .ensures, ← its-links-to .ensures, ← its-both .ensures, its-if1 .left, ← its-same-value .ensures, ← its-both2 .ensures, its-if2 .taken)
+    ∙ rw (its-ended .ensures, ← its-links-to .ensures, ← its-both .ensures, its-if1 .left, ← its-kills .ensures, its-if2 .taken)
 
 note-requires : tie.Need-note-requires
 note-requires c κs = search needs
@@ -60,16 +56,15 @@ returns-3 : tie.Need-returns-3
 unfolding exits
 returns-3 c =
     let its-note = c .note in
-    let its-args = c .before .before .before .before .before .before .before .before .args in
-    let its-links-to = c .before .before .before .before .before .before .before .links-to in
-    let its-both = c .before .before .before .before .before .before .both in
-    let its-if1 = c .before .before .before .before .before .if1 in
-    let its-same-value = c .before .before .before .before .same-value in
-    let its-both2 = c .before .before .before .both2 in
+    let its-args = c .before .before .before .before .before .before .before .args in
+    let its-links-to = c .before .before .before .before .before .before .links-to in
+    let its-both = c .before .before .before .before .before .both in
+    let its-if1 = c .before .before .before .before .if1 in
+    let its-kills = c .before .before .before .kills in
     let its-if2 = c .before .before .if2 in
     let its-if3 = c .before .if3 in
     its-note .ensures
-    ∙ rw (← its-links-to .ensures, ← its-both .ensures, its-if1 .left, ← its-same-value .ensures, ← its-both2 .ensures, its-if2 .left, its-if3 .taken)
+    ∙ rw (← its-links-to .ensures, ← its-both .ensures, its-if1 .left, ← its-kills .ensures, its-if2 .left, its-if3 .taken)
 
 drops-normal-requires : tie.Need-drops-normal-requires
 drops-normal-requires c κs = search needs
@@ -85,14 +80,13 @@ returns-4 c =
     let its-drops-normal = c .before .before .drops-normal in
     let its-if3 = c .before .before .before .if3 in
     let its-if2 = c .before .before .before .before .if2 in
-    let its-both2 = c .before .before .before .before .before .both2 in
-    let its-same-value = c .before .before .before .before .before .before .same-value in
-    let its-if1 = c .before .before .before .before .before .before .before .if1 in
-    let its-both = c .before .before .before .before .before .before .before .before .both in
-    let its-args = c .before .before .before .before .before .before .before .before .before .before .args in
-    let its-links-to = c .before .before .before .before .before .before .before .before .before .links-to in
+    let its-kills = c .before .before .before .before .before .kills in
+    let its-if1 = c .before .before .before .before .before .before .if1 in
+    let its-both = c .before .before .before .before .before .before .before .both in
+    let its-args = c .before .before .before .before .before .before .before .before .before .args in
+    let its-links-to = c .before .before .before .before .before .before .before .before .links-to in
     its-becomes3 .ensures ∙ says-becomes (its-args .p) (its-args .p) (its-args .count)
-    ∙ rw (← its-links-to .ensures, ← its-both .ensures, its-if1 .left, ← its-same-value .ensures, ← its-both2 .ensures, its-if2 .left, its-if3 .left, ← its-drops-normal .ensures, its-if4 .taken)
+    ∙ rw (← its-links-to .ensures, ← its-both .ensures, its-if1 .left, ← its-kills .ensures, its-if2 .left, its-if3 .left, ← its-drops-normal .ensures, its-if4 .taken)
 
 ended-requires-2 : tie.Need-ended-requires-2
 ended-requires-2 c κs = search needs
@@ -109,14 +103,13 @@ returns-5 c =
     let its-drops-normal = c .before .before .before .drops-normal in
     let its-if3 = c .before .before .before .before .if3 in
     let its-if2 = c .before .before .before .before .before .if2 in
-    let its-both2 = c .before .before .before .before .before .before .both2 in
-    let its-same-value = c .before .before .before .before .before .before .before .same-value in
-    let its-if1 = c .before .before .before .before .before .before .before .before .if1 in
-    let its-both = c .before .before .before .before .before .before .before .before .before .both in
-    let its-args = c .before .before .before .before .before .before .before .before .before .before .before .args in
-    let its-links-to = c .before .before .before .before .before .before .before .before .before .before .links-to in
+    let its-kills = c .before .before .before .before .before .before .kills in
+    let its-if1 = c .before .before .before .before .before .before .before .if1 in
+    let its-both = c .before .before .before .before .before .before .before .before .both in
+    let its-args = c .before .before .before .before .before .before .before .before .before .before .args in
+    let its-links-to = c .before .before .before .before .before .before .before .before .before .links-to in
     its-becomes4 .ensures ∙ says-becomes (its-args .p) (its-ended2 .result) (its-args .count)
-    ∙ rw (its-ended2 .ensures, ← its-links-to .ensures, ← its-both .ensures, its-if1 .left, ← its-same-value .ensures, ← its-both2 .ensures, its-if2 .left, its-if3 .left, ← its-drops-normal .ensures, its-if4 .left)
+    ∙ rw (its-ended2 .ensures, ← its-links-to .ensures, ← its-both .ensures, its-if1 .left, ← its-kills .ensures, its-if2 .left, its-if3 .left, ← its-drops-normal .ensures, its-if4 .left)
 
 pub exit-spec : {M : Type 1} → statement M
 exit-spec =
@@ -126,8 +119,7 @@ exit-spec =
     both-requires
     becomes-requires
     returns
-    same-value-requires
-    both-requires-2
+    kills-requires
     ended-requires
     becomes-requires-2
     returns-2
