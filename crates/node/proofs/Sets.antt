@@ -212,7 +212,10 @@ module _ (s : Peers) (k : ℕ) where
 
   pub lowest-next : k < 16 → (s .0 / 2 ^ k % 2 ≡ 1 → ⊥) → firstFrom (k + 1) (drop k (bitsOf s)) ≡ firstFrom (k + 1 + 1) (drop (k + 1) (bitsOf s))
   unfolding bitsOf
-  lowest-next h e = first-next (bits 16 (s .0)) k (rw (bits-length 16 (s .0)) h) (bit-at 16 k (s .0) h ∙ ne-eqb (s .0 / 2 ^ k % 2) 1 e) ∙ (let x : k + 2 ≡ k + 1 + 1 = omega arith in ap (λ (i : ℕ). firstFrom i (drop (k + 1) (bits 16 (s .0)))) x)
+  lowest-next h e =
+      let x : k + 2 ≡ k + 1 + 1 = omega arith in
+      first-next (bits 16 (s .0)) k (rw (bits-length 16 (s .0)) h) (bit-at 16 k (s .0) h ∙ ne-eqb (s .0 / 2 ^ k % 2) 1 e)
+      ∙ ap (λ (i : ℕ). firstFrom i (drop (k + 1) (bits 16 (s .0)))) x
 
   pub lowest-end : 16 ≤ k → firstFrom (k + 1) (drop k (bitsOf s)) ≡ 0
   unfolding bitsOf

@@ -93,7 +93,8 @@ module _ (i j : ℕ) (st : State) where
   pub arrives-full : (y : Signal) → So (sixteenSlots (st .mail)) → Fills (arrives i j st y)
   arrives-full y s = arrives-any st Fills i j y (λ q. tt) (λ q. takes-heard y .full s) (λ q. s) (λ q. s)
 
-  pub arrives-good : (codes : List (List Instruction)) → So (isNumber i) → So (standingSound codes i (standing (st .process) (st .mail))) → So (isNumber j) → (y : Signal) → So (signalSound j i y) → Good codes i (arrives i j st y)
+  pub arrives-good : (codes : List (List Instruction)) → So (isNumber i) → So (standingSound codes i (standing (st .process) (st .mail))) → So (isNumber j) → (y : Signal) →
+      So (signalSound j i y) → Good codes i (arrives i j st y)
   arrives-good codes number sound from y h =
       let dropped : isUnborn (st .process .stage) ≡ false → Good codes i (becomes st (st .process)) = λ b. record { sound = sound; born = b; sent = tt; birth = tt; apart = tt } in
       arrives-any st (Good codes i) i j y (λ q. tt)

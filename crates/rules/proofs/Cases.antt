@@ -114,7 +114,8 @@ module _ (st : State) (P : Answer Effect → Type 0) where
 
   -- ---- an arrival
 
-  pub joins-any : (q : Process) (x : Message) → P (refused mailboxFull) → (ltb (st .mail .count) 16 ≡ true → P (done (record { process = q; mail = joined (st .mail) x; sent = none; born = none }))) → P (joinsWith st q x)
+  pub joins-any : (q : Process) (x : Message) → P (refused mailboxFull) →
+      (ltb (st .mail .count) 16 ≡ true → P (done (record { process = q; mail = joined (st .mail) x; sent = none; born = none }))) → P (joinsWith st q x)
   joins-any q x g h = go (ltb (st .mail .count) 16) refl
     where
       go : (b : Bool) → ltb (st .mail .count) 16 ≡ b → P (need b mailboxFull (done (record { process = q; mail = joined (st .mail) x; sent = none; born = none })))

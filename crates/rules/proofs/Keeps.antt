@@ -62,7 +62,8 @@ Fills (done e) = So (sixteenSlots (e .mail))
 pub becomes-alive : (codes : List (List Instruction)) (i : ℕ) (st : State) (q : Process) → Alive codes i q (st .mail) → Good codes i (becomes st q)
 becomes-alive codes i st q a = record { sound = alive-sound codes i q (st .mail) a; born = live-born codes i q (st .mail) a; sent = tt; birth = tt; apart = tt }
 
-pub sends-alive : (codes : List (List Instruction)) (i : ℕ) (st : State) (q : Process) (j : ℕ) (x : Signal) → Alive codes i q (st .mail) → So (isNumber j) → So (signalSound i j x) → Good codes i (sends st q j x)
+pub sends-alive : (codes : List (List Instruction)) (i : ℕ) (st : State) (q : Process) (j : ℕ) (x : Signal) → Alive codes i q (st .mail) → So (isNumber j) → So (signalSound i j x) →
+    Good codes i (sends st q j x)
 sends-alive codes i st q j x a n h = record { sound = alive-sound codes i q (st .mail) a; born = live-born codes i q (st .mail) a; sent = (n, h); birth = tt; apart = tt }
 
 -- an ended process keeps its reason and its links

@@ -155,7 +155,8 @@ module _ (p : Process) (v : Valued (p .r0) (p .r1) (p .r2) (p .r3)) (Q : Process
   unfolding withRegister
   withRegister-keeps r x g = go (eqb r 0) (eqb r 1) (eqb r 2)
     where
-      go : (a b c : Bool) → Q (cond a (withRegisters p x (p .r1) (p .r2) (p .r3)) (cond b (withRegisters p (p .r0) x (p .r2) (p .r3)) (cond c (withRegisters p (p .r0) (p .r1) x (p .r3)) (withRegisters p (p .r0) (p .r1) (p .r2) x))))
+      go : (a b c : Bool) →
+          Q (cond a (withRegisters p x (p .r1) (p .r2) (p .r3)) (cond b (withRegisters p (p .r0) x (p .r2) (p .r3)) (cond c (withRegisters p (p .r0) (p .r1) x (p .r3)) (withRegisters p (p .r0) (p .r1) (p .r2) x))))
       go true b c = h x (p .r1) (p .r2) (p .r3) (record { v0 = g; v1 = v .v1; v2 = v .v2; v3 = v .v3 })
       go false true c = h (p .r0) x (p .r2) (p .r3) (record { v0 = v .v0; v1 = g; v2 = v .v2; v3 = v .v3 })
       go false false true = h (p .r0) (p .r1) x (p .r3) (record { v0 = v .v0; v1 = v .v1; v2 = g; v3 = v .v3 })
@@ -225,12 +226,15 @@ emptied-sound codes i p m b h = go (p .stage) refl h
   where
     go : (s : Stage) → p .stage ≡ s → So (standingSound codes i (standingIn s p m)) → So (standingSound codes i (standingIn s p (emptied b)))
     go Unborn e g = refl
-    go Live e g = subst (λ (s : Stage). So (standingSound codes i (standingIn s p (emptied b)))) e (alive-sound codes i p (emptied b) (mailed-alive codes i p m (alive codes i p m e h) (emptied b) (emptied-mailed b)))
+    go Live e g =
+        let a = mailed-alive codes i p m (alive codes i p m e h) (emptied b) (emptied-mailed b) in
+        subst (λ (s : Stage). So (standingSound codes i (standingIn s p (emptied b)))) e (alive-sound codes i p (emptied b) a)
     go Closing e g = g
     go Gone e g = refl
 
 -- ---- where a live process stands
 
 -- its behaviour is one that the node has
-pub live-within : (codes : List (List Instruction)) (i : ℕ) (p : Process) (m : Mailbox) → p .stage ≡ Live → So (standingSound codes i (standing p m)) → So (leb 1 (p .behaviour .0) && leb (p .behaviour .0) (length codes))
+pub live-within : (codes : List (List Instruction)) (i : ℕ) (p : Process) (m : Mailbox) → p .stage ≡ Live → So (standingSound codes i (standing p m)) →
+    So (leb 1 (p .behaviour .0) && leb (p .behaviour .0) (length codes))
 live-within codes i p m e h = alive codes i p m e h .placed .known

@@ -53,7 +53,8 @@ module _ (Q : Op → Type 0) where
   FitOk none = Unit {0}
   FitOk (some f) = Q (f .clause) × So (messageSound (f .message))
 
-  firstClause-fit : (cs : List Op) → ((j : ℕ) → j < length cs → Q (getD cs j noOp)) → (i : ℕ) (m : Message) → So (messageSound m) → (later : Option Fit) → FitOk later → FitOk (firstClause cs i m later)
+  firstClause-fit : (cs : List Op) → ((j : ℕ) → j < length cs → Q (getD cs j noOp)) → (i : ℕ) (m : Message) → So (messageSound m) → (later : Option Fit) → FitOk later →
+      FitOk (firstClause cs i m later)
   firstClause-fit [] h i m g later l = l
   firstClause-fit (c ∷ cs) h i m g later l = go (fits c m) (firstClause-fit cs (λ j b. h (suc j) (omega arith)) i m g later l)
     where
@@ -153,7 +154,8 @@ module _ (codes : List (List Instruction)) (i : ℕ) (ops : List Op) (st : State
   unfolding hasClauses instruction kindsOf operand
   clauses-follow e =
       let w : So (not (isRecv (instruction o)) || hasClauses (clauseCount (instruction o)) (drop (t + 1) whole)) = facts (length codes) ops checked t (g .inside) o (g .here) .1 .recv in
-      let u : So (hasClauses (o .small) (drop (t + 1) whole)) = subst (λ (k : ℕ). So (not (eqb k 10) || hasClauses (getD (map (operand o) (kindsOf k)) 0 (numeric 0) .number) (drop (t + 1) whole))) e w in
+      let u : So (hasClauses (o .small) (drop (t + 1) whole)) =
+      subst (λ (k : ℕ). So (not (eqb k 10) || hasClauses (getD (map (operand o) (kindsOf k)) 0 (numeric 0) .number) (drop (t + 1) whole))) e w in
       parts (leb (o .small) (length (drop (t + 1) whole))) _ u .1
 
   clause-target : o .number ≡ 10 → (j : ℕ) → j < length (take (o .small) (drop (t + 1) ops)) → OnTarget (getD (take (o .small) (drop (t + 1) ops)) j noOp)
@@ -172,7 +174,9 @@ module _ (codes : List (List Instruction)) (i : ℕ) (ops : List Op) (st : State
 
   module _ (m : Mailbox) (mail : Mailed m) (k : ℕ) (within : So (leb k (length whole))) (off : So (not (onClause whole k))) where
     moved-with : (b c d e : Value) → Valued b c d e → Alive codes i (moved (withRegisters p b c d e) k) m
-    moved-with b c d e w = moved-alive codes i (withRegisters p b c d e) m (mailed-alive codes i (withRegisters p b c d e) (st .mail) (registers-alive codes i p (st .mail) (g .alive) b c d e w) m mail) k (rw (g .same) within) (rw (g .same) off)
+    moved-with b c d e w =
+        let q = withRegisters p b c d e in
+        moved-alive codes i q m (mailed-alive codes i q (st .mail) (registers-alive codes i p (st .mail) (g .alive) b c d e w) m mail) k (rw (g .same) within) (rw (g .same) off)
 
     kept-alive : (c : Op) (x : Message) → So (messageSound x) → Alive codes i (moved (kept p c x) k) m
     kept-alive c (Plain v) h = withRegister-keeps p (g .alive .valued) (λ q. Alive codes i (moved q k) m) moved-with (c .r) v h
@@ -218,10 +222,10 @@ module _ (code : List Op) (i : ℕ) (st : State) (o : Op) where
     pub good : (codes : List (List Instruction)) → Running codes i code st o → o .number ≡ k → Good codes i x
 
   -- a fact that holds where a sound process is at the op with number k
-  abbrev If : ℕ → Type 0 → Type 0
-  If k A = (codes : List (List Instruction)) → Running codes i code st o → o .number ≡ k → A
+  abbrev If : ℕ → (List (List Instruction) → Type 0) → Type 0
+  If k F = (codes : List (List Instruction)) → Running codes i code st o → o .number ≡ k → F codes
 
-  ends-shown : (k : ℕ) (v : Value) → If k (So (valueSound v)) → Shown k (ends st v)
+  ends-shown : (k : ℕ) (v : Value) → If k (λ c. So (valueSound v)) → Shown k (ends st v)
   unfolding ended
   ends-shown k v h = record { told = tt; full = λ s. s; good = λ codes g e. ends-good codes i st v (h codes g e) (g .alive .apart) }
 
@@ -233,7 +237,7 @@ module _ (code : List Op) (i : ℕ) (st : State) (o : Op) where
     good = λ codes g e. becomes-alive codes i st _ (advanced-alive codes i code st o g (other-op codes i code st o g k e h) (st .process) (g .alive) refl refl);
   }
 
-  sets-shown : (k : ℕ) → eqb k 10 ≡ false → (r : ℕ) (v : Value) → If k (So (valueSound v)) → Shown k (setsRegister st r v)
+  sets-shown : (k : ℕ) → eqb k 10 ≡ false → (r : ℕ) (v : Value) → If k (λ c. So (valueSound v)) → Shown k (setsRegister st r v)
   unfolding advanced
   sets-shown k h r v f = record {
     told = tt;
@@ -246,14 +250,16 @@ module _ (code : List Op) (i : ℕ) (st : State) (o : Op) where
   traps-shown f = record {
     told = tt;
     full = λ s. s;
-    good = λ codes g e. becomes-alive codes i st _ (advanced-alive codes i code st o g (other-op codes i code st o g 8 e refl) (trapped (st .process) f) (trapped-alive codes i (st .process) (st .mail) (g .alive) f) refl refl);
+    good = λ codes g e.
+        let trapping = trapped-alive codes i (st .process) (st .mail) (g .alive) f in
+        becomes-alive codes i st _ (advanced-alive codes i code st o g (other-op codes i code st o g 8 e refl) (trapped (st .process) f) trapping refl refl);
   }
 
   -- a target: within the code, and on no clause
   abbrev Lands : List (List Instruction) → Type 0
   Lands codes = So (leb (o .target) (length (map instruction code))) × So (not (onClause (map instruction code) (o .target)))
 
-  moves-shown : (k : ℕ) → ((codes : List (List Instruction)) → Running codes i code st o → o .number ≡ k → Lands codes) → Shown k (becomes st (moved (st .process) (o .target)))
+  moves-shown : (k : ℕ) → If k Lands → Shown k (becomes st (moved (st .process) (o .target)))
   unfolding moved
   moves-shown k h = record {
     told = tt;
@@ -261,12 +267,16 @@ module _ (code : List Op) (i : ℕ) (st : State) (o : Op) where
     good = λ codes g e. let w = h codes g e in becomes-alive codes i st _ (moved-good codes i code st o g (o .target) (w .0) (w .1));
   }
 
-  jumps-shown : (k : ℕ) → eqb k 10 ≡ false → ((codes : List (List Instruction)) → Running codes i code st o → o .number ≡ k → Lands codes) → (b : Bool) → Shown k (jumpsIf st b (o .target))
+  jumps-shown : (k : ℕ) → eqb k 10 ≡ false → If k Lands → (b : Bool) → Shown k (jumpsIf st b (o .target))
   jumps-shown k h l b = jumps-any st (Shown k) (o .target) (moves-shown k l) (stays-shown k h) b
 
+  -- the process as q: its links may differ, its behaviour and place do not
+  abbrev Kin : Process → List (List Instruction) → Type 0
+  Kin q codes = Alive codes i q (st .mail) × (q .behaviour .0 ≡ st .process .behaviour .0) × (q .place ≡ st .process .place)
+
   -- a signal to j, from the process as q, whose place rises
-  sends-shown : (k : ℕ) → eqb k 10 ≡ false → (q : Process) (j : ℕ) (x : Signal) → If k (So (isNumber j) × So (signalSound i j x)) →
-      ((codes : List (List Instruction)) → Running codes i code st o → o .number ≡ k → Alive codes i q (st .mail) × (q .behaviour .0 ≡ st .process .behaviour .0) × (q .place ≡ st .process .place)) → Shown k (sends st (advanced q) j x)
+  sends-shown : (k : ℕ) → eqb k 10 ≡ false → (q : Process) (j : ℕ) (x : Signal) →
+      If k (λ c. So (isNumber j) × So (signalSound i j x)) → If k (Kin q) → Shown k (sends st (advanced q) j x)
   unfolding advanced
   sends-shown k h q j x n a = record {
     told = tt;
@@ -284,13 +294,13 @@ module _ (code : List Op) (i : ℕ) (st : State) (o : Op) where
   s = register (st .process) (o .s)
 
   -- a register's value is sound, and a process number in it is one
-  value-sound : (k n : ℕ) → If k (So (valueSound (register (st .process) n)))
+  value-sound : (k n : ℕ) → If k (λ c. So (valueSound (register (st .process) n)))
   value-sound k n codes g e = register-good codes i code st o g n
 
-  pid-sound : (k : ℕ) (j : ProcessNumber) → r ≡ Pid j → If k (So (isNumber (j .0)))
+  pid-sound : (k : ℕ) (j : ProcessNumber) → r ≡ Pid j → If k (λ c. So (isNumber (j .0)))
   pid-sound k j q codes g e = subst (λ (v : Value). So (valueSound v)) q (value-sound k (o .r) codes g e)
 
-  send-shown : (k : ℕ) → eqb k 10 ≡ false → (x : Signal) → ((j : ℕ) → If k (So (signalSound i j x))) → Shown k (toProcess st r (λ j. sends st (advanced (st .process)) j x))
+  send-shown : (k : ℕ) → eqb k 10 ≡ false → (x : Signal) → ((j : ℕ) → If k (λ c. So (signalSound i j x))) → Shown k (toProcess st r (λ j. sends st (advanced (st .process)) j x))
   send-shown k h x f =
       toProcess-any st (Shown k) (λ j. sends st (advanced (st .process)) j x) r
       (λ j q. sends-shown k h (st .process) (j .0) x (λ c g e. (pid-sound k j q c g e, f (j .0) c g e)) (λ c g e. (g .alive, refl, refl)))
@@ -298,7 +308,7 @@ module _ (code : List Op) (i : ℕ) (st : State) (o : Op) where
 
   -- link and unlink: a change of the links, told to another process
   links-shown : (k : ℕ) → eqb k 10 ≡ false → (f : ℕ → Process) (x : Signal) → ((j : ℕ) → eqb j i ≡ false → So (signalSound i j x)) →
-      ((j : ℕ) → eqb j i ≡ false → (codes : List (List Instruction)) → Running codes i code st o → So (isNumber j) → Alive codes i (f j) (st .mail) × (f j .behaviour .0 ≡ st .process .behaviour .0) × (f j .place ≡ st .process .place)) →
+      ((j : ℕ) → eqb j i ≡ false → (codes : List (List Instruction)) → Running codes i code st o → So (isNumber j) → Kin (f j) codes) →
       Shown k (toProcess st r (λ j. toOther i st j (sends st (advanced (f j)) j x)))
   links-shown k h f x signal alive =
       toProcess-any st (Shown k) (λ j. toOther i st j (sends st (advanced (f j)) j x)) r
@@ -334,6 +344,14 @@ module _ (code : List Op) (i : ℕ) (st : State) (o : Op) where
     good = λ codes g e. receives-any st (Good codes i) code o tt (fit-good codes i code st o g e);
   }
 
+  -- where the op has a target, it is within the code and on no clause
+  lands : (k : ℕ) → ((c : ℕ) (checked : So (codeSound c (map instruction code))) (inside : st .process .place < length code) →
+      getD code (st .process .place) noOp ≡ o → o .number ≡ k → So (leb (o .target) (length (map instruction code))) × So (not (onClause (map instruction code) (o .target)))) → If k Lands
+  lands k h c g e = h (length c) (checked c i code st o g) (g .inside) (g .here) e
+
+  abbrev place : ℕ
+  place = st .process .place
+
   -- a row to an op
   rows : Each Shown 0 (opTable code i st o)
   unfolding kindsOf operand operandInRange
@@ -350,9 +368,9 @@ module _ (code : List Op) (i : ℕ) (st : State) (o : Op) where
       then spawns-shown
       then receives-shown
       then stays-shown 11 refl
-      then moves-shown 12 (λ c g e. target-12 (length c) code (checked c i code st o g) (st .process .place) (g .inside) o (g .here) e)
-      then jumps-shown 13 refl (λ c g e. target-13 (length c) code (checked c i code st o g) (st .process .place) (g .inside) o (g .here) e) (sameValue r (o .value))
-      then compares-any st (Shown 14) (o .target) (jumps-shown 14 refl (λ c g e. target-14 (length c) code (checked c i code st o g) (st .process .place) (g .inside) o (g .here) e)) (ends-shown 14 badarg (λ c g e. refl)) r s
+      then moves-shown 12 (lands 12 (λ c s h q. target-12 c code s place h o q))
+      then jumps-shown 13 refl (lands 13 (λ c s h q. target-13 c code s place h o q)) (sameValue r (o .value))
+      then compares-any st (Shown 14) (o .target) (jumps-shown 14 refl (lands 14 (λ c s h q. target-14 c code s place h o q))) (ends-shown 14 badarg (λ c g e. refl)) r s
       then last
 
   pub op-shown : Shown (o .number) (runsOp code i st o)

@@ -127,7 +127,8 @@ module _ (c : ℕ) (ops : List Op) (checked : So (codeSound c (map instruction o
   target-14 e = (in-range 14 2 e (omega arith), target-off 14 2 e (omega arith))
 
 -- the code of a behaviour that the node has passes the plan's rules
-pub code-passes : (codes : List (List Instruction)) (b : ℕ) (ops : List Op) → So (leb 1 b && leb b (length codes)) → codeOf codes b ≡ map instruction ops → So (allOf (codeSound (length codes)) codes) → So (codeSound (length codes) (map instruction ops))
+pub code-passes : (codes : List (List Instruction)) (b : ℕ) (ops : List Op) → So (leb 1 b && leb b (length codes)) → codeOf codes b ≡ map instruction ops →
+    So (allOf (codeSound (length codes)) codes) → So (codeSound (length codes) (map instruction ops))
 code-passes codes b ops known same sounds =
     let w = parts (leb 1 b) (leb b (length codes)) known in
     let x = leb-true 1 b (w .0) in
@@ -135,7 +136,8 @@ code-passes codes b ops known same sounds =
     rw same at (allOf-at (codeSound (length codes)) [] codes sounds (b - 1) (omega arith))
 
 -- the code of a behaviour that the node has is of at most 32 ops
-pub code-size : (codes : List (List Instruction)) (b : ℕ) (ops : List Op) → So (leb 1 b && leb b (length codes)) → codeOf codes b ≡ map instruction ops → So (allOf (codeSound (length codes)) codes) → length ops ≤ 32
+pub code-size : (codes : List (List Instruction)) (b : ℕ) (ops : List Op) → So (leb 1 b && leb b (length codes)) → codeOf codes b ≡ map instruction ops →
+    So (allOf (codeSound (length codes)) codes) → length ops ≤ 32
 unfolding codeSound
 code-size codes b ops known same sounds =
     let whole = map instruction ops in
@@ -145,14 +147,16 @@ code-size codes b ops known same sounds =
     rw (length-map ops instruction) at (leb-true (length whole) 32 (parts (leb 1 (length whole)) (leb (length whole) 32) (v .0) .1))
 
 -- a recv has at most 8 clauses, and they stand behind it
-pub recv-clauses : (c : ℕ) (ops : List Op) → So (codeSound c (map instruction ops)) → (t : ℕ) → t < length ops → getD ops t noOp .number ≡ 10 → (getD ops t noOp .small ≤ 8) × (t + 1 + getD ops t noOp .small ≤ length ops)
+pub recv-clauses : (c : ℕ) (ops : List Op) → So (codeSound c (map instruction ops)) → (t : ℕ) → t < length ops → getD ops t noOp .number ≡ 10 →
+    (getD ops t noOp .small ≤ 8) × (t + 1 + getD ops t noOp .small ≤ length ops)
 unfolding hasClauses instruction kindsOf operand operandInRange
 recv-clauses c ops checked t inside e =
     let o = getD ops t noOp in
     let whole = map instruction ops in
     let r : So (leb 1 (o .small) && leb (o .small) 8) = in-range c ops checked t inside o refl 10 0 e (omega arith) in
     let w : So (not (isRecv (instruction o)) || hasClauses (clauseCount (instruction o)) (drop (t + 1) whole)) = facts c ops checked t inside o refl .1 .recv in
-    let u : So (hasClauses (o .small) (drop (t + 1) whole)) = subst (λ (k : ℕ). So (not (eqb k 10) || hasClauses (getD (map (operand o) (kindsOf k)) 0 (numeric 0) .number) (drop (t + 1) whole))) e w in
+    let u : So (hasClauses (o .small) (drop (t + 1) whole)) =
+    subst (λ (k : ℕ). So (not (eqb k 10) || hasClauses (getD (map (operand o) (kindsOf k)) 0 (numeric 0) .number) (drop (t + 1) whole))) e w in
     let v = leb-true (o .small) (length (drop (t + 1) whole)) (parts (leb (o .small) (length (drop (t + 1) whole))) (allOf isClause (take (o .small) (drop (t + 1) whole))) u .0) in
     let l : length (drop (t + 1) whole) ≡ length ops - (t + 1) = simp (length-drop, length-map) in
     (leb-true (o .small) 8 (parts (leb 1 (o .small)) (leb (o .small) 8) r .1), omega arith)
