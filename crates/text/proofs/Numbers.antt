@@ -8,6 +8,7 @@ use borrow.Author.Tests.{eq-eqb, ne-eqb, le-leb, lt-leb}
 use lib.Dec.{eqb}
 use lib.ListN.{length, take, drop, getD, drop-of-length-le}
 use Rattle.node.specs.Lists.{allOf}
+use Rattle.node.specs.Texts.{bytes}
 use Rattle.rules.specs.Answers.{Answer}
 use Rattle.text.specs.declared.Number.the-variants as number
 use Rattle.text.specs.declared.Number.{Number}
@@ -70,12 +71,12 @@ unsigned-other [] h e d = let no : ⊥ = omega arith in absurd no
 unsigned-other (b ∷ l) h e d = rw (ne-eqb b 48 e) d
 
 -- ---- numbers
-module _ (s : List ℕ) {z : Bool} (hz : z ≡ equal s (45 ∷ 48 ∷ [])) where
+module _ (s : List ℕ) {z : Bool} (hz : z ≡ equal s (bytes "-0")) where
   pub number-zero : z ≡ true → signedOf number.Malformed ≡ numberOf s
   unfolding numberOf numberForm
   number-zero e = rw (← hz, e)
 
-  module _ (ez : z ≡ false) {m u : Bool} (hm : m ≡ startsWith (45 ∷ []) s) where
+  module _ (ez : z ≡ false) {m u : Bool} (hm : m ≡ startsWith (bytes "-") s) where
     module _ (em : m ≡ true) (hu : u ≡ unsignedForm (take (length s - 1) (drop 1 s))) where
       pub number-minus : {n : ℕ} → u ≡ true → n ≡ min (decimal 0 (take (length s - 1) (drop 1 s))) ceiling → signedOf (number.Minus n) ≡ numberOf s
       unfolding numberOf numberForm numberValue unsigned negative

@@ -19,6 +19,7 @@ use Prim.Native.Nat.{ℕ, _+_, _*_, _-_, min}
 use lib.Dec.{eqb, leb}
 use lib.ListN.{drop}
 use Rattle.node.specs.Lists.{allOf}
+use Rattle.node.specs.Texts.{bytes}
 use Rattle.rules.specs.Answers.{Answer, refused, done, need}
 use Rattle.text.specs.declared.Number.the-variants as number
 use Rattle.text.specs.declared.Number.{Number}
@@ -40,13 +41,13 @@ unsignedForm [] = false
 unsignedForm (b ∷ l) = cond (eqb b 48) (equal l []) (allOf isDigit (b ∷ l))
 
 unfoldable pub negative : List ℕ → Bool
-negative l = startsWith (45 ∷ []) l
+negative l = startsWith (bytes "-") l
 
 unfoldable pub unsigned : List ℕ → List ℕ
 unsigned l = cond (negative l) (drop 1 l) l
 
 unfoldable pub numberForm : List ℕ → Bool
-numberForm l = not (equal l (45 ∷ 48 ∷ [])) && unsignedForm (unsigned l)
+numberForm l = not (equal l (bytes "-0")) && unsignedForm (unsigned l)
 
 unfoldable pub decimal : ℕ → List ℕ → ℕ
 decimal n [] = n
