@@ -1,5 +1,5 @@
 -- The lines of the listing (document 01, "Plan, steps and listing text"): what a value, a process and a pair of the view read as.
---   lineEnd comma         byte 10, which ends each line, and byte 44
+--   lineEnd comma         the byte that ends each line, and a comma
 --   numberLine key n      a line with a number;  valueLine key v  a line with a value
 --   eachFrom f i xs       the texts of the elements of xs with their numbers, the first having number i
 --   flag b                0 or 1
