@@ -25,6 +25,7 @@ use Rattle.node.specs.Processes.{unborn, fresh, register, withRegister, moved, 
 use Rattle.node.specs.Sets.{noPeers, bitsOf, has, withPeer, withoutPeer, lowestPeer}
 use Rattle.node.specs.Rows.{noSignal, emptyRow, signals, oldest, pushed, popped}
 use Rattle.node.specs.Values.{intZero, normal, kill, killed, badarith, pid}
+use Rattle.node.specs.Texts.{bytes}
 use Rattle.rules.specs.Arrive.{arrives, exits}
 use Rattle.rules.specs.Behaviours.{operand, instruction, operandInRange, inRange, hasClauses, targetsFree, wellPlaced, codeSound}
 use Rattle.rules.specs.Nodes.{Sound, sound, shaped, viewSound, view, behavioursOf, code, setOf, standing, runningSound, rowSound}
@@ -144,53 +145,19 @@ spawner = rower 4 intZero intZero false unlinkedLinks
 
 sample-plan : List ℕ
 sample-plan =
-    (112 ∷ 108 ∷ 97 ∷ 110 ∷ 61 ∷ 49 ∷ 10 ∷ [])  -- plan=1
-    ++ (98 ∷ 101 ∷ 104 ∷ 97 ∷ 118 ∷ 105 ∷ 111 ∷ 117 ∷ 114 ∷ 115 ∷ 61 ∷ 50 ∷ 10 ∷ [])  -- behaviours=2
-    ++ (99 ∷ 111 ∷ 100 ∷ 101 ∷ 61 ∷ 51 ∷ 10 ∷ [])  -- code=3
-    ++ (111 ∷ 112 ∷ 61 ∷ 115 ∷ 101 ∷ 116 ∷ 44 ∷ 48 ∷ 44 ∷ 112 ∷ 50 ∷ 10 ∷ [])  -- op=set,0,p2
-    ++ (111 ∷ 112 ∷ 61 ∷ 115 ∷ 101 ∷ 116 ∷ 44 ∷ 49 ∷ 44 ∷ 105 ∷ 49 ∷ 50 ∷ 10 ∷ [])  -- op=set,1,i12
-    ++ (111 ∷ 112 ∷ 61 ∷ 115 ∷ 101 ∷ 110 ∷ 100 ∷ 44 ∷ 48 ∷ 44 ∷ 49 ∷ 10 ∷ [])  -- op=send,0,1
-    ++ (99 ∷ 111 ∷ 100 ∷ 101 ∷ 61 ∷ 50 ∷ 10 ∷ [])  -- code=2
-    ++ (111 ∷ 112 ∷ 61 ∷ 114 ∷ 101 ∷ 99 ∷ 118 ∷ 44 ∷ 49 ∷ 10 ∷ [])  -- op=recv,1
-    ++ (111 ∷ 112 ∷ 61 ∷ 99 ∷ 108 ∷ 97 ∷ 117 ∷ 115 ∷ 101 ∷ 44 ∷ 105 ∷ 110 ∷ 116 ∷ 44 ∷ 48 ∷ 44 ∷ 49 ∷ 44 ∷ 50 ∷ 10 ∷ [])  -- op=clause,int,0,1,2
-    ++ (115 ∷ 116 ∷ 97 ∷ 114 ∷ 116 ∷ 115 ∷ 61 ∷ 50 ∷ 10 ∷ [])  -- starts=2
-    ++ (115 ∷ 116 ∷ 97 ∷ 114 ∷ 116 ∷ 61 ∷ 49 ∷ 44 ∷ 49 ∷ 10 ∷ [])  -- start=1,1
-    ++ (115 ∷ 116 ∷ 97 ∷ 114 ∷ 116 ∷ 61 ∷ 50 ∷ 44 ∷ 50 ∷ 10 ∷ [])  -- start=2,2
+    bytes "plan=1\nbehaviours=2\n"
+    ++ bytes "code=3\nop=set,0,p2\nop=set,1,i12\nop=send,0,1\n"
+    ++ bytes "code=2\nop=recv,1\nop=clause,int,0,1,2\n"
+    ++ bytes "starts=2\nstart=1,1\nstart=2,2\n"
 
 sample-steps : List ℕ
-sample-steps =
-    (114 ∷ 117 ∷ 110 ∷ 61 ∷ 49 ∷ 10 ∷ [])  -- run=1
-    ++ (114 ∷ 117 ∷ 110 ∷ 61 ∷ 49 ∷ 10 ∷ [])  -- run=1
-    ++ (114 ∷ 117 ∷ 110 ∷ 61 ∷ 49 ∷ 10 ∷ [])  -- run=1
-    ++ (97 ∷ 114 ∷ 114 ∷ 105 ∷ 118 ∷ 101 ∷ 61 ∷ 50 ∷ 44 ∷ 49 ∷ 10 ∷ [])  -- arrive=2,1
-    ++ (114 ∷ 117 ∷ 110 ∷ 61 ∷ 50 ∷ 10 ∷ [])  -- run=2
+sample-steps = bytes "run=1\nrun=1\nrun=1\narrive=2,1\nrun=2\n"
 
 sample-output : List ℕ
 sample-output =
-    (97 ∷ 99 ∷ 99 ∷ 101 ∷ 112 ∷ 116 ∷ 101 ∷ 100 ∷ 61 ∷ 53 ∷ 10 ∷ [])  -- accepted=5
-    ++ (114 ∷ 101 ∷ 102 ∷ 117 ∷ 115 ∷ 101 ∷ 100 ∷ 61 ∷ 48 ∷ 10 ∷ [])  -- refused=0
-    ++ (112 ∷ 114 ∷ 111 ∷ 99 ∷ 101 ∷ 115 ∷ 115 ∷ 61 ∷ 49 ∷ 10 ∷ [])  -- process=1
-    ++ (115 ∷ 116 ∷ 97 ∷ 103 ∷ 101 ∷ 61 ∷ 108 ∷ 105 ∷ 118 ∷ 101 ∷ 10 ∷ [])  -- stage=live
-    ++ (98 ∷ 101 ∷ 104 ∷ 97 ∷ 118 ∷ 105 ∷ 111 ∷ 117 ∷ 114 ∷ 61 ∷ 49 ∷ 10 ∷ [])  -- behaviour=1
-    ++ (112 ∷ 108 ∷ 97 ∷ 99 ∷ 101 ∷ 61 ∷ 51 ∷ 10 ∷ [])  -- place=3
-    ++ (114 ∷ 48 ∷ 61 ∷ 112 ∷ 50 ∷ 10 ∷ [])  -- r0=p2
-    ++ (114 ∷ 49 ∷ 61 ∷ 105 ∷ 49 ∷ 50 ∷ 10 ∷ [])  -- r1=i12
-    ++ (114 ∷ 50 ∷ 61 ∷ 105 ∷ 48 ∷ 10 ∷ [])  -- r2=i0
-    ++ (114 ∷ 51 ∷ 61 ∷ 105 ∷ 48 ∷ 10 ∷ [])  -- r3=i0
-    ++ (116 ∷ 114 ∷ 97 ∷ 112 ∷ 61 ∷ 48 ∷ 10 ∷ [])  -- trap=0
-    ++ (108 ∷ 105 ∷ 110 ∷ 107 ∷ 115 ∷ 61 ∷ 10 ∷ [])  -- links=
-    ++ (109 ∷ 97 ∷ 105 ∷ 108 ∷ 61 ∷ 48 ∷ 10 ∷ [])  -- mail=0
-    ++ (112 ∷ 114 ∷ 111 ∷ 99 ∷ 101 ∷ 115 ∷ 115 ∷ 61 ∷ 50 ∷ 10 ∷ [])  -- process=2
-    ++ (115 ∷ 116 ∷ 97 ∷ 103 ∷ 101 ∷ 61 ∷ 108 ∷ 105 ∷ 118 ∷ 101 ∷ 10 ∷ [])  -- stage=live
-    ++ (98 ∷ 101 ∷ 104 ∷ 97 ∷ 118 ∷ 105 ∷ 111 ∷ 117 ∷ 114 ∷ 61 ∷ 50 ∷ 10 ∷ [])  -- behaviour=2
-    ++ (112 ∷ 108 ∷ 97 ∷ 99 ∷ 101 ∷ 61 ∷ 50 ∷ 10 ∷ [])  -- place=2
-    ++ (114 ∷ 48 ∷ 61 ∷ 105 ∷ 49 ∷ 50 ∷ 10 ∷ [])  -- r0=i12
-    ++ (114 ∷ 49 ∷ 61 ∷ 105 ∷ 48 ∷ 10 ∷ [])  -- r1=i0
-    ++ (114 ∷ 50 ∷ 61 ∷ 105 ∷ 48 ∷ 10 ∷ [])  -- r2=i0
-    ++ (114 ∷ 51 ∷ 61 ∷ 105 ∷ 48 ∷ 10 ∷ [])  -- r3=i0
-    ++ (116 ∷ 114 ∷ 97 ∷ 112 ∷ 61 ∷ 48 ∷ 10 ∷ [])  -- trap=0
-    ++ (108 ∷ 105 ∷ 110 ∷ 107 ∷ 115 ∷ 61 ∷ 10 ∷ [])  -- links=
-    ++ (109 ∷ 97 ∷ 105 ∷ 108 ∷ 61 ∷ 48 ∷ 10 ∷ [])  -- mail=0
+    bytes "accepted=5\nrefused=0\n"
+    ++ bytes "process=1\nstage=live\nbehaviour=1\nplace=3\nr0=p2\nr1=i12\nr2=i0\nr3=i0\ntrap=0\nlinks=\nmail=0\n"
+    ++ bytes "process=2\nstage=live\nbehaviour=2\nplace=2\nr0=i12\nr1=i0\nr2=i0\nr3=i0\ntrap=0\nlinks=\nmail=0\n"
 
 abbrev sampleActions : List Action
 sampleActions = run 1 ∷ run 1 ∷ run 1 ∷ arrive 2 1 ∷ run 2 ∷ []
@@ -255,7 +222,7 @@ unfolding sample started opOf play played step rule ready commit incoming decide
 sample-count = (refl, refl)
 
 -- what is printed of a play whose count, refusal and listing are known
-shown-as : (r : Played) (text : List ℕ) → r .accepted ≡ 5 → r .refusal ≡ 0 → listingOf (r .node) ≡ text → playedText r ≡ (97 ∷ 99 ∷ 99 ∷ 101 ∷ 112 ∷ 116 ∷ 101 ∷ 100 ∷ 61 ∷ 53 ∷ 10 ∷ 114 ∷ 101 ∷ 102 ∷ 117 ∷ 115 ∷ 101 ∷ 100 ∷ 61 ∷ 48 ∷ 10 ∷ []) ++ text
+shown-as : (r : Played) (text : List ℕ) → r .accepted ≡ 5 → r .refusal ≡ 0 → listingOf (r .node) ≡ text → playedText r ≡ bytes "accepted=5\nrefused=0\n" ++ text
 unfolding playedText numberLine digits digitsIn
 shown-as r text a b c = rw (a, b, c)
 

@@ -2,7 +2,7 @@
 --   program-short   what is printed has at most `longestAnswer` bytes
 --   program-told program-answered   so a buffer of that length takes it: `simulate` never tells 30 there
 use mathlib.Core.Bool.{Bool, true, false, cond}
-use mathlib.Core.List.{List, [], _∷_, _++_}
+use mathlib.Core.List.{List, _++_}
 use mathlib.Core.Path.{_≡_, sym, _∙_, ap}
 use Prim.Native.Nat.{ℕ, _≤_}
 use native.Mathlib.Omega.{arith}
@@ -14,6 +14,7 @@ use Rattle.listing.specs.declared.Listed.{Listed}
 use Rattle.listing.specs.Answers.{told, shown}
 use Rattle.listing_lines.proofs.Longest.{Within, _⊕_, exactly, loosely, digits-within, numberLine-within}
 use Rattle.node.specs.declared.Node.{Node}
+use Rattle.node.specs.Texts.{bytes}
 use Rattle.plan.proofs.Refusals.{load-told}
 use Rattle.plan.proofs.Sound.{loaded-sound}
 use Rattle.plan.specs.declared.Loaded.{Loaded}
@@ -31,7 +32,7 @@ refused-within : (key : List ℕ) (k line : ℕ) → length key ≤ 6 → k ≤ 
 unfolding refusedLine
 refused-within key k line short h g =
     loosely longestAnswer (omega arith)
-    (exactly key ⊕ digits-within 1 k (omega arith) ⊕ exactly (44 ∷ []) ⊕ digits-within 4 line (omega arith) ⊕ exactly (10 ∷ []))
+    (exactly key ⊕ digits-within 1 k (omega arith) ⊕ exactly (bytes ",") ⊕ digits-within 4 line (omega arith) ⊕ exactly (bytes "\n"))
 
 played-within : (n : Node) (l : List Action) → Sound n → Within (playedText (play n l)) longestAnswer
 unfolding playedText

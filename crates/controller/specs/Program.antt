@@ -5,10 +5,11 @@
 --   programText plan steps   what is printed for a plan text and a steps text
 --   longestAnswer            no plan text and steps text have a longer answer
 use mathlib.Core.Bool.{cond}
-use mathlib.Core.List.{List, [], _∷_, _++_, map}
+use mathlib.Core.List.{List, _++_, map}
 use Prim.Native.Nat.{ℕ}
 use lib.Dec.{eqb}
 use lib.ListN.{take}
+use Rattle.node.specs.Texts.{bytes}
 use Rattle.actions.specs.Numbers.{actionOf}
 use Rattle.listing.specs.Listing.{listingOf}
 use Rattle.listing_lines.specs.Lines.{numberLine}
@@ -20,20 +21,20 @@ use Rattle.schedule.specs.Reading.{scheduleOf}
 use Rattle.text.specs.Writing.{digits}
 
 abbrev pub loadKey : List ℕ
-loadKey = 108 ∷ 111 ∷ 97 ∷ 100 ∷ 61 ∷ []  -- load=
+loadKey = bytes "load="
 
 abbrev pub stepsKey : List ℕ
-stepsKey = 115 ∷ 116 ∷ 101 ∷ 112 ∷ 115 ∷ 61 ∷ []  -- steps=
+stepsKey = bytes "steps="
 
 abbrev pub acceptedKey : List ℕ
-acceptedKey = 97 ∷ 99 ∷ 99 ∷ 101 ∷ 112 ∷ 116 ∷ 101 ∷ 100 ∷ 61 ∷ []  -- accepted=
+acceptedKey = bytes "accepted="
 
 abbrev pub refusedKey : List ℕ
-refusedKey = 114 ∷ 101 ∷ 102 ∷ 117 ∷ 115 ∷ 101 ∷ 100 ∷ 61 ∷ []  -- refused=
+refusedKey = bytes "refused="
 
--- "`load=number,line`", "`steps=number,line`"; 44 is a comma, 10 ends the line
+-- "`load=number,line`", "`steps=number,line`"
 unfoldable pub refusedLine : List ℕ → ℕ → ℕ → List ℕ
-refusedLine key k line = key ++ digits k ++ (44 ∷ []) ++ digits line ++ (10 ∷ [])
+refusedLine key k line = key ++ digits k ++ bytes "," ++ digits line ++ bytes "\n"
 
 -- "`accepted=`, `refused=` and the listing"
 unfoldable pub playedText : Played → List ℕ

@@ -14,6 +14,7 @@ use Rattle.node.specs.Processes.{register, withRegister, moved, advanced, links
 use Rattle.node.specs.Sets.{bitsOf, has}
 use Rattle.node.specs.Rows.{signals, oldest, pushed, popped}
 use Rattle.node.specs.Values.{intZero, normal, killed, pid}
+use Rattle.node.specs.Texts.{bytes}
 use Rattle.rules.proofs.Sample.{opOf, sample, started}
 use Rattle.rules.specs.Arrive.{arrives}
 use Rattle.rules.specs.Behaviours.{operand, instruction, operandInRange, inRange, hasClauses, targetsFree, wellPlaced, codeSound}
@@ -31,28 +32,8 @@ use Rattle.listing.specs.Listing.{rowsText, listingText, listingOf}
 pub sample-listing :
     listingOf (play started (run 1 ∷ run 1 ∷ run 1 ∷ arrive 2 1 ∷ run 2 ∷ []) .node)
     ≡
-    (112 ∷ 114 ∷ 111 ∷ 99 ∷ 101 ∷ 115 ∷ 115 ∷ 61 ∷ 49 ∷ 10 ∷ [])  -- process=1
-    ++ (115 ∷ 116 ∷ 97 ∷ 103 ∷ 101 ∷ 61 ∷ 108 ∷ 105 ∷ 118 ∷ 101 ∷ 10 ∷ [])  -- stage=live
-    ++ (98 ∷ 101 ∷ 104 ∷ 97 ∷ 118 ∷ 105 ∷ 111 ∷ 117 ∷ 114 ∷ 61 ∷ 49 ∷ 10 ∷ [])  -- behaviour=1
-    ++ (112 ∷ 108 ∷ 97 ∷ 99 ∷ 101 ∷ 61 ∷ 51 ∷ 10 ∷ [])  -- place=3
-    ++ (114 ∷ 48 ∷ 61 ∷ 112 ∷ 50 ∷ 10 ∷ [])  -- r0=p2
-    ++ (114 ∷ 49 ∷ 61 ∷ 105 ∷ 49 ∷ 50 ∷ 10 ∷ [])  -- r1=i12
-    ++ (114 ∷ 50 ∷ 61 ∷ 105 ∷ 48 ∷ 10 ∷ [])  -- r2=i0
-    ++ (114 ∷ 51 ∷ 61 ∷ 105 ∷ 48 ∷ 10 ∷ [])  -- r3=i0
-    ++ (116 ∷ 114 ∷ 97 ∷ 112 ∷ 61 ∷ 48 ∷ 10 ∷ [])  -- trap=0
-    ++ (108 ∷ 105 ∷ 110 ∷ 107 ∷ 115 ∷ 61 ∷ 10 ∷ [])  -- links=
-    ++ (109 ∷ 97 ∷ 105 ∷ 108 ∷ 61 ∷ 48 ∷ 10 ∷ [])  -- mail=0
-    ++ (112 ∷ 114 ∷ 111 ∷ 99 ∷ 101 ∷ 115 ∷ 115 ∷ 61 ∷ 50 ∷ 10 ∷ [])  -- process=2
-    ++ (115 ∷ 116 ∷ 97 ∷ 103 ∷ 101 ∷ 61 ∷ 108 ∷ 105 ∷ 118 ∷ 101 ∷ 10 ∷ [])  -- stage=live
-    ++ (98 ∷ 101 ∷ 104 ∷ 97 ∷ 118 ∷ 105 ∷ 111 ∷ 117 ∷ 114 ∷ 61 ∷ 50 ∷ 10 ∷ [])  -- behaviour=2
-    ++ (112 ∷ 108 ∷ 97 ∷ 99 ∷ 101 ∷ 61 ∷ 50 ∷ 10 ∷ [])  -- place=2
-    ++ (114 ∷ 48 ∷ 61 ∷ 105 ∷ 49 ∷ 50 ∷ 10 ∷ [])  -- r0=i12
-    ++ (114 ∷ 49 ∷ 61 ∷ 105 ∷ 48 ∷ 10 ∷ [])  -- r1=i0
-    ++ (114 ∷ 50 ∷ 61 ∷ 105 ∷ 48 ∷ 10 ∷ [])  -- r2=i0
-    ++ (114 ∷ 51 ∷ 61 ∷ 105 ∷ 48 ∷ 10 ∷ [])  -- r3=i0
-    ++ (116 ∷ 114 ∷ 97 ∷ 112 ∷ 61 ∷ 48 ∷ 10 ∷ [])  -- trap=0
-    ++ (108 ∷ 105 ∷ 110 ∷ 107 ∷ 115 ∷ 61 ∷ 10 ∷ [])  -- links=
-    ++ (109 ∷ 97 ∷ 105 ∷ 108 ∷ 61 ∷ 48 ∷ 10 ∷ [])  -- mail=0
+    bytes "process=1\nstage=live\nbehaviour=1\nplace=3\nr0=p2\nr1=i12\nr2=i0\nr3=i0\ntrap=0\nlinks=\nmail=0\n"
+    ++ bytes "process=2\nstage=live\nbehaviour=2\nplace=2\nr0=i12\nr1=i0\nr2=i0\nr3=i0\ntrap=0\nlinks=\nmail=0\n"
 unfolding listingOf numberLine valueLine eachFrom members withCommas setLine registerLine messageLine mailText standingText signalLine flightLine pairText rowsText listingText each valueText numberText intText digits digitsIn started sample opOf play played step rule ready commit incoming decide at numbered ownerBorn signalWaits pairHasRoom numberFree sound shaped viewSound view behavioursOf code setOf has bitsOf standing runningSound rowSound receives fits runs runsLive runsOp arrives operand instruction operandInRange inRange hasClauses targetsFree wellPlaced codeSound isNumber fitsInt messages joined without signals oldest pushed popped register withRegister moved advanced linksTo kindsOf
 sample-listing = refl
 
@@ -76,31 +57,10 @@ pub other-listing :
           ∷ [];
     })
     ≡
-    (112 ∷ 114 ∷ 111 ∷ 99 ∷ 101 ∷ 115 ∷ 115 ∷ 61 ∷ 51 ∷ 10 ∷ [])  -- process=3
-    ++ (115 ∷ 116 ∷ 97 ∷ 103 ∷ 101 ∷ 61 ∷ 99 ∷ 108 ∷ 111 ∷ 115 ∷ 105 ∷ 110 ∷ 103 ∷ 10 ∷ [])  -- stage=closing
-    ++ (114 ∷ 101 ∷ 97 ∷ 115 ∷ 111 ∷ 110 ∷ 61 ∷ 97 ∷ 50 ∷ 10 ∷ [])  -- reason=a2
-    ++ (108 ∷ 105 ∷ 110 ∷ 107 ∷ 115 ∷ 61 ∷ 49 ∷ 53 ∷ 44 ∷ 49 ∷ 54 ∷ 10 ∷ [])  -- links=15,16
-    ++ (112 ∷ 114 ∷ 111 ∷ 99 ∷ 101 ∷ 115 ∷ 115 ∷ 61 ∷ 52 ∷ 10 ∷ [])  -- process=4
-    ++ (115 ∷ 116 ∷ 97 ∷ 103 ∷ 101 ∷ 61 ∷ 103 ∷ 111 ∷ 110 ∷ 101 ∷ 10 ∷ [])  -- stage=gone
-    ++ (112 ∷ 114 ∷ 111 ∷ 99 ∷ 101 ∷ 115 ∷ 115 ∷ 61 ∷ 49 ∷ 54 ∷ 10 ∷ [])  -- process=16
-    ++ (115 ∷ 116 ∷ 97 ∷ 103 ∷ 101 ∷ 61 ∷ 108 ∷ 105 ∷ 118 ∷ 101 ∷ 10 ∷ [])  -- stage=live
-    ++ (98 ∷ 101 ∷ 104 ∷ 97 ∷ 118 ∷ 105 ∷ 111 ∷ 117 ∷ 114 ∷ 61 ∷ 56 ∷ 10 ∷ [])  -- behaviour=8
-    ++ (112 ∷ 108 ∷ 97 ∷ 99 ∷ 101 ∷ 61 ∷ 51 ∷ 50 ∷ 10 ∷ [])  -- place=32
-    ++ (114 ∷ 48 ∷ 61 ∷ 105 ∷ 45 ∷ 50 ∷ 49 ∷ 52 ∷ 55 ∷ 52 ∷ 56 ∷ 51 ∷ 54 ∷ 52 ∷ 56 ∷ 10 ∷ [])  -- r0=i-2147483648
-    ++ (114 ∷ 49 ∷ 61 ∷ 97 ∷ 50 ∷ 53 ∷ 53 ∷ 10 ∷ [])  -- r1=a255
-    ++ (114 ∷ 50 ∷ 61 ∷ 112 ∷ 49 ∷ 54 ∷ 10 ∷ [])  -- r2=p16
-    ++ (114 ∷ 51 ∷ 61 ∷ 105 ∷ 48 ∷ 10 ∷ [])  -- r3=i0
-    ++ (116 ∷ 114 ∷ 97 ∷ 112 ∷ 61 ∷ 49 ∷ 10 ∷ [])  -- trap=1
-    ++ (108 ∷ 105 ∷ 110 ∷ 107 ∷ 115 ∷ 61 ∷ 55 ∷ 10 ∷ [])  -- links=7
-    ++ (109 ∷ 97 ∷ 105 ∷ 108 ∷ 61 ∷ 50 ∷ 10 ∷ [])  -- mail=2
-    ++ (109 ∷ 101 ∷ 115 ∷ 115 ∷ 97 ∷ 103 ∷ 101 ∷ 61 ∷ 105 ∷ 53 ∷ 10 ∷ [])  -- message=i5
-    ++ (110 ∷ 111 ∷ 116 ∷ 101 ∷ 61 ∷ 112 ∷ 51 ∷ 44 ∷ 97 ∷ 57 ∷ 10 ∷ [])  -- note=p3,a9
-    ++ (102 ∷ 108 ∷ 105 ∷ 103 ∷ 104 ∷ 116 ∷ 61 ∷ 49 ∷ 44 ∷ 50 ∷ 44 ∷ 52 ∷ 10 ∷ [])  -- flight=1,2,4
-    ++ (115 ∷ 105 ∷ 103 ∷ 110 ∷ 97 ∷ 108 ∷ 61 ∷ 109 ∷ 115 ∷ 103 ∷ 44 ∷ 105 ∷ 49 ∷ 50 ∷ 10 ∷ [])  -- signal=msg,i12
-    ++ (115 ∷ 105 ∷ 103 ∷ 110 ∷ 97 ∷ 108 ∷ 61 ∷ 101 ∷ 120 ∷ 105 ∷ 116 ∷ 44 ∷ 97 ∷ 48 ∷ 44 ∷ 49 ∷ 10 ∷ [])  -- signal=exit,a0,1
-    ++ (115 ∷ 105 ∷ 103 ∷ 110 ∷ 97 ∷ 108 ∷ 61 ∷ 108 ∷ 105 ∷ 110 ∷ 107 ∷ 10 ∷ [])  -- signal=link
-    ++ (115 ∷ 105 ∷ 103 ∷ 110 ∷ 97 ∷ 108 ∷ 61 ∷ 117 ∷ 110 ∷ 108 ∷ 105 ∷ 110 ∷ 107 ∷ 10 ∷ [])  -- signal=unlink
-    ++ (102 ∷ 108 ∷ 105 ∷ 103 ∷ 104 ∷ 116 ∷ 61 ∷ 50 ∷ 44 ∷ 49 ∷ 44 ∷ 49 ∷ 10 ∷ [])  -- flight=2,1,1
-    ++ (115 ∷ 105 ∷ 103 ∷ 110 ∷ 97 ∷ 108 ∷ 61 ∷ 101 ∷ 120 ∷ 105 ∷ 116 ∷ 44 ∷ 112 ∷ 49 ∷ 44 ∷ 48 ∷ 10 ∷ [])  -- signal=exit,p1,0
+    bytes "process=3\nstage=closing\nreason=a2\nlinks=15,16\n"
+    ++ bytes "process=4\nstage=gone\n"
+    ++ bytes "process=16\nstage=live\nbehaviour=8\nplace=32\nr0=i-2147483648\nr1=a255\nr2=p16\nr3=i0\ntrap=1\nlinks=7\nmail=2\nmessage=i5\nnote=p3,a9\n"
+    ++ bytes "flight=1,2,4\nsignal=msg,i12\nsignal=exit,a0,1\nsignal=link\nsignal=unlink\n"
+    ++ bytes "flight=2,1,1\nsignal=exit,p1,0\n"
 unfolding numberLine valueLine eachFrom members withCommas setLine registerLine messageLine mailText standingText signalLine flightLine pairText rowsText listingText each valueText numberText intText digits digitsIn
 other-listing = refl

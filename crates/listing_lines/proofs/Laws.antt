@@ -30,6 +30,7 @@ use Rattle.node.specs.Lists.{firsts}
 use Rattle.node.specs.Mailboxes.{messages, noMessage}
 use Rattle.node.specs.Sets.{has}
 use Rattle.node.specs.Rows.{signals, noSignal}
+use Rattle.node.specs.Texts.{bytes}
 use Rattle.rules.proofs.All.{rising-at}
 use Rattle.rules.proofs.Kept.{signals-length}
 use Rattle.rules.specs.Nodes.{standing, standingIn, setOf}
@@ -134,7 +135,7 @@ unfolding mailText messages
 mail-text m = rw (held-length (λ (s : Slot). s .message) noMessage (m .count) (m .slots))
 
 pub registers-text : (a b c d : Value) →
-    valueLine (114 ∷ 48 ∷ 61 ∷ []) a ++ valueLine (114 ∷ 49 ∷ 61 ∷ []) b ++ valueLine (114 ∷ 50 ∷ 61 ∷ []) c ++ valueLine (114 ∷ 51 ∷ 61 ∷ []) d
+    valueLine (bytes "r0=") a ++ valueLine (bytes "r1=") b ++ valueLine (bytes "r2=") c ++ valueLine (bytes "r3=") d
     ≡ eachFrom registerLine 0 (a ∷ b ∷ c ∷ d ∷ [])
 unfolding eachFrom registerLine digits digitsIn
 registers-text a b c d = simp (append-assoc, append-nil)

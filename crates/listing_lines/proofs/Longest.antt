@@ -28,6 +28,7 @@ use Rattle.node.specs.declared.Value.the-variants.{Int, Atom, Pid}
 use Rattle.node.specs.declared.Value.{Value}
 use Rattle.node.specs.Lists.{rising, allOf}
 use Rattle.node.specs.Mailboxes.{messages}
+use Rattle.node.specs.Texts.{bytes}
 use Rattle.rules.proofs.All.{parts, allOf-at}
 use Rattle.rules.proofs.Living.{Placed, Alive, alive}
 use Rattle.rules.proofs.Places.{code-short}
@@ -66,15 +67,15 @@ two-digits n h = digits-within 1 n h
 
 pid-within : (i : ProcessNumber) → So (isNumber (i .0)) → Within (valueText (Pid i)) 3
 unfolding valueText numberText
-pid-within i h = let low = number-bounds (i .0) h in exactly (112 ∷ []) ⊕ two-digits (i .0) (omega arith)
+pid-within i h = let low = number-bounds (i .0) h in exactly (bytes "p") ⊕ two-digits (i .0) (omega arith)
 
 value-within : (v : Value) → So (valueSound v) → Within (valueText v) 12
 unfolding valueText numberText intText fitsInt
-value-within (Int (pos n)) h = let low = leb-true n 2147483647 h in exactly (105 ∷ []) ⊕ loosely 11 (omega arith) (digits-within 9 n (omega arith))
+value-within (Int (pos n)) h = let low = leb-true n 2147483647 h in exactly (bytes "i") ⊕ loosely 11 (omega arith) (digits-within 9 n (omega arith))
 value-within (Int (negsuc n)) h =
     let low = leb-true n 2147483647 (parts (leb n 2147483647) true h .0) in
-    exactly (105 ∷ 45 ∷ []) ⊕ digits-within 9 (suc n) (omega arith)
-value-within (Atom a) h = let low = leb-true a 255 h in exactly (97 ∷ []) ⊕ loosely 11 (omega arith) (digits-within 2 a (omega arith))
+    exactly (bytes "i-") ⊕ digits-within 9 (suc n) (omega arith)
+value-within (Atom a) h = let low = leb-true a 255 h in exactly (bytes "a") ⊕ loosely 11 (omega arith) (digits-within 2 a (omega arith))
 value-within (Pid i) h = loosely 12 (omega arith) (pid-within i h)
 
 flag-within : (b : Bool) → Within (digits (flag b)) 1
@@ -155,7 +156,7 @@ longestProcess = 529
 
 register-within : (k : ℕ) → k < 10 → (v : Value) → So (valueSound v) → Within (registerLine k v) 16
 unfolding registerLine valueLine
-register-within k low v h = exactly (114 ∷ []) ⊕ one-digit k low ⊕ exactly (61 ∷ []) ⊕ value-within v h ⊕ exactly lineEnd
+register-within k low v h = exactly (bytes "r") ⊕ one-digit k low ⊕ exactly (bytes "=") ⊕ value-within v h ⊕ exactly lineEnd
 
 -- the behaviours of a sound node are 8 at most, of 32 ops at most
 module _ (codes : List (List Instruction)) (few : length codes ≤ 8) (checked : So (allOf (codeSound (length codes)) codes)) where

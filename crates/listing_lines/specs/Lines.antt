@@ -1,5 +1,5 @@
 -- The lines of the listing (document 01, "Plan, steps and listing text"): what a value, a process and a pair of the view read as.
---   lineEnd comma         byte 10, which ends each line, and byte 44
+--   lineEnd comma         the byte that ends each line, and a comma
 --   numberLine key n      a line with a number;  valueLine key v  a line with a value
 --   eachFrom f i xs       the texts of the elements of xs with their numbers, the first having number i
 --   flag b                0 or 1
@@ -22,6 +22,7 @@ use Rattle.node.specs.declared.Signal.the-variants.{Msg, Exit, Link, Unlink}
 use Rattle.node.specs.declared.Signal.{Signal}
 use Rattle.node.specs.declared.Value.the-variants.{Pid}
 use Rattle.node.specs.declared.Value.{Value}
+use Rattle.node.specs.Texts.{bytes}
 use Rattle.rules.specs.Nodes.{Standing, unborn, live, closing, gone}
 use Rattle.rules.specs.Values.{numbers}
 use Rattle.text.specs.Values.{valueText}
@@ -29,10 +30,10 @@ use Rattle.text.specs.Writing.{digits, each}
 use Rattle.listing_lines.specs.Words.{processKey, liveLine, closingLine, goneLine, behaviourKey, placeKey, trapKey, linksKey, reasonKey, mailKey, messageKey, noteKey, flightKey, msgKey, exitKey, linkLine, unlinkLine}
 
 abbrev pub lineEnd : List ℕ
-lineEnd = 10 ∷ []
+lineEnd = bytes "\n"
 
 abbrev pub comma : List ℕ
-comma = 44 ∷ []
+comma = bytes ","
 
 unfoldable pub numberLine : List ℕ → ℕ → List ℕ
 numberLine key n = key ++ digits n ++ lineEnd
@@ -65,7 +66,7 @@ setLine key set = key ++ withCommas (members set numbers) ++ lineEnd
 
 -- r0= to r3=
 unfoldable pub registerLine : ℕ → Value → List ℕ
-registerLine k v = valueLine ((114 ∷ []) ++ digits k ++ (61 ∷ [])) v
+registerLine k v = valueLine (bytes "r" ++ digits k ++ bytes "=") v
 
 -- "lines `message=V` or `note=p,V`", the sender with its letter
 unfoldable pub messageLine : Message → List ℕ

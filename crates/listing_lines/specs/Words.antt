@@ -1,72 +1,55 @@
--- The keys of the listing and its lines without a number, as bytes (document 01, "Plan, steps and listing text").
--- Beside each stands what it reads as; a line ends with byte 10.
-use mathlib.Core.List.{List, [], _∷_}
+-- The keys of the listing and its lines without a number (document 01, "Plan, steps and listing text").
+use mathlib.Core.List.{List}
 use Prim.Native.Nat.{ℕ}
+use Rattle.node.specs.Texts.{bytes}
 
--- process=
 abbrev pub processKey : List ℕ
-processKey = 112 ∷ 114 ∷ 111 ∷ 99 ∷ 101 ∷ 115 ∷ 115 ∷ 61 ∷ []
+processKey = bytes "process="
 
--- stage=live
 abbrev pub liveLine : List ℕ
-liveLine = 115 ∷ 116 ∷ 97 ∷ 103 ∷ 101 ∷ 61 ∷ 108 ∷ 105 ∷ 118 ∷ 101 ∷ 10 ∷ []
+liveLine = bytes "stage=live\n"
 
--- stage=closing
 abbrev pub closingLine : List ℕ
-closingLine = 115 ∷ 116 ∷ 97 ∷ 103 ∷ 101 ∷ 61 ∷ 99 ∷ 108 ∷ 111 ∷ 115 ∷ 105 ∷ 110 ∷ 103 ∷ 10 ∷ []
+closingLine = bytes "stage=closing\n"
 
--- stage=gone
 abbrev pub goneLine : List ℕ
-goneLine = 115 ∷ 116 ∷ 97 ∷ 103 ∷ 101 ∷ 61 ∷ 103 ∷ 111 ∷ 110 ∷ 101 ∷ 10 ∷ []
+goneLine = bytes "stage=gone\n"
 
--- behaviour=
 abbrev pub behaviourKey : List ℕ
-behaviourKey = 98 ∷ 101 ∷ 104 ∷ 97 ∷ 118 ∷ 105 ∷ 111 ∷ 117 ∷ 114 ∷ 61 ∷ []
+behaviourKey = bytes "behaviour="
 
--- place=
 abbrev pub placeKey : List ℕ
-placeKey = 112 ∷ 108 ∷ 97 ∷ 99 ∷ 101 ∷ 61 ∷ []
+placeKey = bytes "place="
 
--- trap=
 abbrev pub trapKey : List ℕ
-trapKey = 116 ∷ 114 ∷ 97 ∷ 112 ∷ 61 ∷ []
+trapKey = bytes "trap="
 
--- links=
 abbrev pub linksKey : List ℕ
-linksKey = 108 ∷ 105 ∷ 110 ∷ 107 ∷ 115 ∷ 61 ∷ []
+linksKey = bytes "links="
 
--- reason=
 abbrev pub reasonKey : List ℕ
-reasonKey = 114 ∷ 101 ∷ 97 ∷ 115 ∷ 111 ∷ 110 ∷ 61 ∷ []
+reasonKey = bytes "reason="
 
--- mail=
 abbrev pub mailKey : List ℕ
-mailKey = 109 ∷ 97 ∷ 105 ∷ 108 ∷ 61 ∷ []
+mailKey = bytes "mail="
 
--- message=
 abbrev pub messageKey : List ℕ
-messageKey = 109 ∷ 101 ∷ 115 ∷ 115 ∷ 97 ∷ 103 ∷ 101 ∷ 61 ∷ []
+messageKey = bytes "message="
 
--- note=
 abbrev pub noteKey : List ℕ
-noteKey = 110 ∷ 111 ∷ 116 ∷ 101 ∷ 61 ∷ []
+noteKey = bytes "note="
 
--- flight=
 abbrev pub flightKey : List ℕ
-flightKey = 102 ∷ 108 ∷ 105 ∷ 103 ∷ 104 ∷ 116 ∷ 61 ∷ []
+flightKey = bytes "flight="
 
--- signal=msg,
 abbrev pub msgKey : List ℕ
-msgKey = 115 ∷ 105 ∷ 103 ∷ 110 ∷ 97 ∷ 108 ∷ 61 ∷ 109 ∷ 115 ∷ 103 ∷ 44 ∷ []
+msgKey = bytes "signal=msg,"
 
--- signal=exit,
 abbrev pub exitKey : List ℕ
-exitKey = 115 ∷ 105 ∷ 103 ∷ 110 ∷ 97 ∷ 108 ∷ 61 ∷ 101 ∷ 120 ∷ 105 ∷ 116 ∷ 44 ∷ []
+exitKey = bytes "signal=exit,"
 
--- signal=link
 abbrev pub linkLine : List ℕ
-linkLine = 115 ∷ 105 ∷ 103 ∷ 110 ∷ 97 ∷ 108 ∷ 61 ∷ 108 ∷ 105 ∷ 110 ∷ 107 ∷ 10 ∷ []
+linkLine = bytes "signal=link\n"
 
--- signal=unlink
 abbrev pub unlinkLine : List ℕ
-unlinkLine = 115 ∷ 105 ∷ 103 ∷ 110 ∷ 97 ∷ 108 ∷ 61 ∷ 117 ∷ 110 ∷ 108 ∷ 105 ∷ 110 ∷ 107 ∷ 10 ∷ []
+unlinkLine = bytes "signal=unlink\n"

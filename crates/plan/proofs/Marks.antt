@@ -8,6 +8,7 @@ use mathlib.Core.Bool.{Bool, true, false}
 use mathlib.Core.List.{List}
 use mathlib.Core.Path.{_≡_, refl, _∙_}
 use Prim.Native.Nat.{ℕ, _+_, _-_, _≤_, _<_}
+use Prim.Native.Char.{code}
 use native.Mathlib.Omega.{arith}
 use borrow.Author.Tests.{eq-eqb, ne-eqb, ltb-true, ltb-false}
 use lib.Dec.{eqb, ltb}
@@ -21,12 +22,12 @@ use Rattle.plan.specs.Marks.{leftAt, told, mapped, stopped, behind, endM
 use Rattle.plan_line.specs.Lines.{answered}
 use Rattle.plan.specs.Reading.{bad, good, judged, onLine, endOf}
 
-module _ (s : List ℕ) (m : Mark) {e : ℕ} (w : Within s m) (h : e ≡ placeFrom 10 (m .at) s) where
+module _ (s : List ℕ) (m : Mark) {e : ℕ} (w : Within s m) (h : e ≡ placeFrom (code "\n") (m .at) s) where
   pub line-start : m .at ≤ e
-  line-start = place-after 10 s (w .at) h
+  line-start = place-after (code "\n") s (w .at) h
 
   pub line-end : e ≤ length s
-  line-end = place-inside 10 s (w .at) h
+  line-end = place-inside (code "\n") s (w .at) h
 
   pub line-short : e < length s → (m .line < 65536) × (e < 65536)
   line-short l = let a = w .line in let b = w .at in let d = w .short in (omega arith, omega arith)
@@ -56,7 +57,7 @@ module _ (s : List ℕ) (m : Mark) {e : ℕ} (w : Within s m) (h : e ≡ placeFr
 -- ---- the end of a text
 
 module _ {A B : Type 0} (s : List ℕ) (m : Mark) (w : Within s m) (F : A → B) (a : A) where
-  some-left : (t : Bool) → ltb (placeFrom 10 (m .at) s) (length s) ≡ t → m .at < length s → endOf a (leftAt s m) ≡ bad malformed (m .line)
+  some-left : (t : Bool) → ltb (placeFrom (code "\n") (m .at) s) (length s) ≡ t → m .at < length s → endOf a (leftAt s m) ≡ bad malformed (m .line)
   unfolding endOf lineThen
   some-left true e l = rw (lines-at s (w .at) refl (ltb-true _ _ e))
   some-left false e l = rw (lines-rest s (w .at) refl (ltb-false _ _ e), drop-at s (m .at) l)
@@ -70,7 +71,7 @@ module _ {A B : Type 0} (s : List ℕ) (m : Mark) (w : Within s m) (F : A → B)
     unfolding endMark told mapped
     end-by true e =
         let is : endMark s m ≡ stopped m malformed = rw (eq-eqb (m .refusal) 0 on, e) in
-        let left = some-left (ltb (placeFrom 10 (m .at) s) (length s)) refl (ltb-true (m .at) (length s) e) in
+        let left = some-left (ltb (placeFrom (code "\n") (m .at) s) (length s)) refl (ltb-true (m .at) (length s) e) in
         rw is (record { is = rw left; within = record { line = w .line; at = w .at; short = w .short } })
     end-by false e =
         let is : endMark s m ≡ m = rw (eq-eqb (m .refusal) 0 on, e) in

@@ -22,7 +22,7 @@ use Rattle.node.specs.Lists.{allFrom, allOf}
 use Rattle.node.specs.Mailboxes.{emptied, emptyMailbox}
 use Rattle.node.specs.Ops.{kindsOf}
 use Rattle.node.specs.Nodes.{blankNode, noProcess, noMailbox, noRow, pair}
-use Rattle.node.specs.Processes.{fresh, sixteenLinks, unborn}
+use Rattle.node.specs.Processes.{fresh, unborn}
 use Rattle.node.specs.Rows.{emptyRow, signals}
 use Rattle.node.specs.Values.{intZero}
 use Rattle.node.proofs.Lists.{allFrom-both, allOf-from}

@@ -7,6 +7,7 @@ use mathlib.Core.Bool.{Bool, true, false, So, _&&_, _||_, not, cond}
 use mathlib.Core.List.{List, [], _∷_}
 use mathlib.Core.Path.{_≡_, refl, sym, subst, _∙_}
 use Prim.Native.Nat.{ℕ, zero, suc, _+_, _<_}
+use Prim.Native.Char.{code}
 use native.Mathlib.Omega.{arith}
 use borrow.Author.Tests.{le-leb, leb-true, ltb-true, eqb-true, not-true}
 use lib.Dec.{eqb, leb, ltb}
@@ -78,7 +79,7 @@ letter-by l false false false = no-value-kept malformed
 value-kept : (l : List ℕ) → ValueKept (valueOf l)
 unfolding valueOf byLetter
 value-kept [] = no-value-kept malformed
-value-kept (b ∷ l) = letter-by l (eqb b 105) (eqb b 97) (eqb b 112)
+value-kept (b ∷ l) = letter-by l (eqb b (code "i")) (eqb b (code "a")) (eqb b (code "p"))
 
 -- ---- an operand
 

@@ -3,6 +3,7 @@
 use mathlib.Core.List.{List, [], _∷_}
 use mathlib.Core.Path.{_≡_, refl, ap, _∙_}
 use Prim.Native.Nat.{ℕ, _+_, _*_, _≤_, _<_}
+use Prim.Native.Char.{code}
 use native.Mathlib.Numerals.{add-one}
 use native.Mathlib.Omega.{arith}
 use borrow.Author.Tests.{lt-ltb, le-ltb, eq-eqb, ne-eqb, leb-true}
@@ -56,7 +57,7 @@ module _ (c n k : ℕ) (l : List ℕ) (i : ℕ) (o : Coded) {g : Coded}
 -- ---- a word and its operands
 fields-some : (l : List ℕ) → 1 ≤ length (fieldsOf l)
 unfolding fieldsOf
-fields-some l = let q = split-some 44 l in omega (arith, ap length (q .2))
+fields-some l = let q = split-some (code ",") l in omega (arith, ap length (q .2))
 
 pub operand-fields : (l : List ℕ) (n : ℕ) → length (fieldsOf l) ≡ n + 1 → length (drop 1 (fieldsOf l)) ≡ n
 operand-fields l n h = omega (arith, length-drop 1 (fieldsOf l))

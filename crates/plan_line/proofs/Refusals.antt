@@ -3,6 +3,7 @@
 use mathlib.Core.Bool.{Bool, true, false, _&&_, cond}
 use mathlib.Core.List.{List, [], _∷_}
 use Prim.Native.Nat.{ℕ, _≤_, min}
+use Prim.Native.Char.{code}
 use native.Mathlib.Omega.{arith}
 use lib.Dec.{eqb, leb, ltb}
 use lib.IntN.{pos, negℤ}
@@ -51,7 +52,7 @@ int-told l = go (numberForm l) (negative l)
 value-told : (l : List ℕ) → valueOf l .refusal ≤ outOfRange
 unfolding valueOf byLetter
 value-told [] = omega arith
-value-told (b ∷ l) = go (eqb b 105) (eqb b 97) (eqb b 112)
+value-told (b ∷ l) = go (eqb b (code "i")) (eqb b (code "a")) (eqb b (code "p"))
   where
     go : (x y z : Bool)
         → cond x (intOf (numberOf l)) (cond y (rangedValue Atom (rangedOf (numberOf l) 0 255)) (cond z (rangedValue pid (rangedOf (numberOf l) 1 16)) (noValue malformed))) .refusal ≤ outOfRange

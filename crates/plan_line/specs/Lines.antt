@@ -9,12 +9,13 @@
 --   answered k a            a result beside the refusal of its line
 --   headerLine countLine opLine startLine   the refusal of such a line, or its result
 use mathlib.Core.Bool.{cond}
-use mathlib.Core.List.{List, [], _∷_}
+use mathlib.Core.List.{List, []}
 use Prim.Native.Nat.{ℕ}
 use lib.Dec.{eqb, ltb}
 use lib.ListN.{length, getD, drop}
 use Rattle.node.specs.declared.Op.{Op}
 use Rattle.node.specs.declared.ProcessNumber.{ProcessNumber}
+use Rattle.node.specs.Texts.{bytes}
 use Rattle.rules.specs.Answers.{Answer, done, need}
 use Rattle.text.specs.declared.Ranged.{Ranged}
 use Rattle.text.specs.Numbers.{malformed, numberOf, noNumber, rangedOf}
@@ -28,22 +29,22 @@ abbrev pub notRising : ℕ
 notRising = 13
 
 abbrev pub header : List ℕ
-header = 112 ∷ 108 ∷ 97 ∷ 110 ∷ 61 ∷ 49 ∷ []  -- plan=1
+header = bytes "plan=1"
 
 abbrev pub behavioursKey : List ℕ
-behavioursKey = 98 ∷ 101 ∷ 104 ∷ 97 ∷ 118 ∷ 105 ∷ 111 ∷ 117 ∷ 114 ∷ 115 ∷ 61 ∷ []  -- behaviours=
+behavioursKey = bytes "behaviours="
 
 abbrev pub codeKey : List ℕ
-codeKey = 99 ∷ 111 ∷ 100 ∷ 101 ∷ 61 ∷ []  -- code=
+codeKey = bytes "code="
 
 abbrev pub opKey : List ℕ
-opKey = 111 ∷ 112 ∷ 61 ∷ []  -- op=
+opKey = bytes "op="
 
 abbrev pub startsKey : List ℕ
-startsKey = 115 ∷ 116 ∷ 97 ∷ 114 ∷ 116 ∷ 115 ∷ 61 ∷ []  -- starts=
+startsKey = bytes "starts="
 
 abbrev pub startKey : List ℕ
-startKey = 115 ∷ 116 ∷ 97 ∷ 114 ∷ 116 ∷ 61 ∷ []  -- start=
+startKey = bytes "start="
 
 abbrev pub behindKey : {A : Type 0} → List ℕ → A → (List ℕ → A) → List ℕ → A
 behindKey key wrong f line = cond (startsWith key line) (f (drop (length key) line)) wrong

@@ -22,6 +22,7 @@ use Rattle.node.specs.declared.Value.{Value}
 use Rattle.node.specs.Nodes.{noOp}
 use Rattle.node.specs.Ops.{operandCounts, kindsOf}
 use Rattle.node.specs.Values.{intZero}
+use Rattle.node.specs.Texts.{bytes}
 use Rattle.text.specs.declared.Parsed.{Parsed}
 use Rattle.text.specs.declared.Ranged.{Ranged}
 use Rattle.text.specs.Numbers.{malformed, numberOf, rangedOf}
@@ -34,13 +35,12 @@ use Rattle.plan_line.specs.declared.Operand.{Operand}
 unfoldable pub worse : ℕ → ℕ → ℕ
 worse j k = cond (eqb j 0) k (cond (eqb k malformed) malformed j)
 
--- set,copy,self,add,send,exit,link,unlink,trap,spawn,recv,clause,jump,same,less,stop
 abbrev pub opWords : List ℕ
-opWords = 115 ∷ 101 ∷ 116 ∷ 44 ∷ 99 ∷ 111 ∷ 112 ∷ 121 ∷ 44 ∷ 115 ∷ 101 ∷ 108 ∷ 102 ∷ 44 ∷ 97 ∷ 100 ∷ 100 ∷ 44 ∷ 115 ∷ 101 ∷ 110 ∷ 100 ∷ 44 ∷ 101 ∷ 120 ∷ 105 ∷ 116 ∷ 44 ∷ 108 ∷ 105 ∷ 110 ∷ 107 ∷ 44 ∷ 117 ∷ 110 ∷ 108 ∷ 105 ∷ 110 ∷ 107 ∷ 44 ∷ 116 ∷ 114 ∷ 97 ∷ 112 ∷ 44 ∷ 115 ∷ 112 ∷ 97 ∷ 119 ∷ 110 ∷ 44 ∷ 114 ∷ 101 ∷ 99 ∷ 118 ∷ 44 ∷ 99 ∷ 108 ∷ 97 ∷ 117 ∷ 115 ∷ 101 ∷ 44 ∷ 106 ∷ 117 ∷ 109 ∷ 112 ∷ 44 ∷ 115 ∷ 97 ∷ 109 ∷ 101 ∷ 44 ∷ 108 ∷ 101 ∷ 115 ∷ 115 ∷ 44 ∷ 115 ∷ 116 ∷ 111 ∷ 112 ∷ []
+opWords = bytes "set,copy,self,add,send,exit,link,unlink,trap,spawn,recv,clause,jump,same,less,stop"
 
 -- "k is any (notes too), int, atom, pid, note or one exact V"
 abbrev pub clauseWords : List ℕ
-clauseWords = 97 ∷ 110 ∷ 121 ∷ 44 ∷ 105 ∷ 110 ∷ 116 ∷ 44 ∷ 97 ∷ 116 ∷ 111 ∷ 109 ∷ 44 ∷ 112 ∷ 105 ∷ 100 ∷ 44 ∷ 110 ∷ 111 ∷ 116 ∷ 101 ∷ []
+clauseWords = bytes "any,int,atom,pid,note"
 
 abbrev pub numeric : Ranged → Operand
 numeric x = record { refusal = x .refusal; number = x .number; value = intZero }

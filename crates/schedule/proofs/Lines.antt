@@ -8,6 +8,7 @@ use mathlib.Core.Bool.{Bool, true, false}
 use mathlib.Core.List.{List, [], _∷_, _++_, map, append-assoc}
 use mathlib.Core.Path.{_≡_, refl, sym, ap, _∙_}
 use Prim.Native.Nat.{ℕ, zero, suc, _+_, _-_, _≤_, _<_}
+use Prim.Native.Char.{code}
 use native.Mathlib.Omega.{arith}
 use borrow.Author.Tests.{lt-ltb, le-ltb}
 use lib.ListN.{length, take, drop, set, replicate, length-append}
@@ -102,7 +103,7 @@ module _ {text steps : List ℕ} {count at : ℕ} (so : So text steps count at) 
       ap (firstMalformed 1) e ∙ steps-malformed (so .earlier) 1 ls ∙ omega (arith, so .counted) in
       simp (le-ltb _ _ w, f, lt-ltb 0 (count + 1) (omega arith)) p
 
-  module _ {e : ℕ} (w : length text ≤ 61440) (a : at ≤ length text) (h : e ≡ placeFrom 10 at text) where
+  module _ {e : ℕ} (w : length text ≤ 61440) (a : at ≤ length text) (h : e ≡ placeFrom (code "\n") at text) where
     pub so-unended : {r : Schedule} → at < length text → length text ≤ e → r ≡ refusedText malformedLine (count + 1) → r ≡ scheduleOf text
     unfolding readLines
     so-unended b l p =

@@ -19,6 +19,7 @@ use Prim.Native.Nat.{ℕ, _+_, _*_}
 use lib.Dec.{eqb, ltb}
 use lib.ListN.{length, getD, drop, replicate}
 use Rattle.node.specs.Lists.{firsts}
+use Rattle.node.specs.Texts.{bytes}
 use Rattle.rules.specs.Answers.{Answer, refused, done, need, tooLong}
 use Rattle.text.specs.declared.Ranged.{Ranged}
 use Rattle.text.specs.Numbers.{numberOf, rangedOf}
@@ -43,10 +44,10 @@ unfoldable pub arrivalOf : List (List ℕ) → Answer ℕ
 arrivalOf fields = need (eqb (length fields) 2) malformedLine (packedOf 1 (byteOf (getD fields 0 [])) (byteOf (getD fields 1 [])))
 
 abbrev pub runKey : List ℕ
-runKey = 114 ∷ 117 ∷ 110 ∷ 61 ∷ []  -- run=
+runKey = bytes "run="
 
 abbrev pub arriveKey : List ℕ
-arriveKey = 97 ∷ 114 ∷ 114 ∷ 105 ∷ 118 ∷ 101 ∷ 61 ∷ []  -- arrive=
+arriveKey = bytes "arrive="
 
 -- the from of a run is 0
 unfoldable pub stepOf : List ℕ → Answer ℕ

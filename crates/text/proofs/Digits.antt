@@ -3,6 +3,7 @@ use mathlib.Core.Bool.{Bool, true, false}
 use mathlib.Core.List.{List, [], _∷_, _++_}
 use mathlib.Core.Path.{_≡_, refl, ap}
 use Prim.Native.Nat.{ℕ, zero, suc, _+_, _/_, _%_, _^_, _≤_, _<_}
+use Prim.Native.Char.{code}
 use native.Mathlib.Nat.{pow-suc}
 use native.Mathlib.Omega.{arith}
 use borrow.Author.Tests.{lt-ltb, le-ltb, ltb-true, ltb-false}
@@ -22,19 +23,19 @@ stable (suc f) (suc g) n h k = by-size (ltb n 10) refl (λ l. stable f g (n / 10
         → (10 ≤ n → digitsIn f (ltb (n / 10) 10) (n / 10) ≡ digitsIn g (ltb (n / 10) 10) (n / 10))
         → digitsIn (suc f) t n ≡ digitsIn (suc g) t n
     by-size true e ih = refl
-    by-size false e ih = ap (λ (l : List ℕ). l ++ ((48 + n % 10) ∷ [])) (ih (ltb-false n 10 e))
+    by-size false e ih = ap (λ (l : List ℕ). l ++ ((code "0" + n % 10) ∷ [])) (ih (ltb-false n 10 e))
 
-pub digits-one : (n : ℕ) → n < 10 → digits n ≡ (48 + n) ∷ []
+pub digits-one : (n : ℕ) → n < 10 → digits n ≡ (code "0" + n) ∷ []
 unfolding digits digitsIn
 digits-one zero h = refl
 digits-one (suc n) h = rw (lt-ltb (suc n) 10 h)
 
-pub digits-more : (n : ℕ) → 10 ≤ n → digits n ≡ digits (n / 10) ++ ((48 + n % 10) ∷ [])
+pub digits-more : (n : ℕ) → 10 ≤ n → digits n ≡ digits (n / 10) ++ ((code "0" + n % 10) ∷ [])
 unfolding digits digitsIn
 digits-more zero h = let no : ⊥ = omega arith in absurd no
 digits-more (suc n) h =
     rw (le-ltb (suc n) 10 h)
-    (ap (λ (l : List ℕ). l ++ ((48 + suc n % 10) ∷ [])) (stable n (suc n / 10) (suc n / 10) (omega arith) (omega arith)))
+    (ap (λ (l : List ℕ). l ++ ((code "0" + suc n % 10) ∷ [])) (stable n (suc n / 10) (suc n / 10) (omega arith) (omega arith)))
 
 -- a number below 10 ^ k has at most k digits; 0 has one
 pub digits-length : (k n : ℕ) → n < 10 ^ suc k → length (digits n) ≤ suc k
@@ -43,4 +44,4 @@ digits-length (suc k) n h = by-size (ltb n 10) refl (λ m. digits-length k (n / 
   where
     by-size : (t : Bool) → ltb n 10 ≡ t → (10 ≤ n → length (digits (n / 10)) ≤ suc k) → length (digits n) ≤ suc (suc k)
     by-size true e ih = rw (digits-one n (ltb-true n 10 e)) (omega arith)
-    by-size false e ih = let many = ltb-false n 10 e in rw (digits-more n many) (omega (arith, ih many, length-append (digits (n / 10)) ((48 + n % 10) ∷ [])))
+    by-size false e ih = let many = ltb-false n 10 e in rw (digits-more n many) (omega (arith, ih many, length-append (digits (n / 10)) ((code "0" + n % 10) ∷ [])))

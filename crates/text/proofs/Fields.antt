@@ -7,24 +7,25 @@ use mathlib.Core.Bool.{Bool, true, false}
 use mathlib.Core.List.{List, [], _∷_}
 use mathlib.Core.Path.{_≡_, sym, ap, _∙_}
 use Prim.Native.Nat.{ℕ, suc, _+_, _-_, _≤_, _<_}
+use Prim.Native.Char.{code}
 use native.Mathlib.Omega.{arith}
 use borrow.Author.Tests.{eq-eqb, ne-eqb}
 use lib.ListN.{length, take, drop, getD, drop-of-length-le}
 use Rattle.text.specs.Parts.{placeFrom, inFront, split, fieldsOf, equal, indexOf}
 use Rattle.text.proofs.Parts.{drop-at, split-some, split-at, split-end, split-first, rest-part}
 
-module _ (s : List ℕ) {at e : ℕ} (w : at ≤ length s) (h : e ≡ placeFrom 44 at s) where
+module _ (s : List ℕ) {at e : ℕ} (w : at ≤ length s) (h : e ≡ placeFrom (code ",") at s) where
   pub fields-at : e < length s → fieldsOf (drop at s) ≡ take (e - at) (drop at s) ∷ fieldsOf (drop (e + 1) s)
   unfolding fieldsOf
-  fields-at l = split-at 44 s w h l
+  fields-at l = split-at (code ",") s w h l
 
   pub fields-end : length s ≤ e → fieldsOf (drop at s) ≡ drop at s ∷ []
   unfolding fieldsOf
-  fields-end l = split-end 44 s w h l
+  fields-end l = split-end (code ",") s w h l
 
   pub fields-first : (ps : List (List ℕ)) × (fieldsOf (drop at s) ≡ take (e - at) (drop at s) ∷ ps)
   unfolding fieldsOf
-  fields-first = split-first 44 s w h
+  fields-first = split-first (code ",") s w h
 
   -- ---- field k, after n fields
   module _ {k n : ℕ} {g : List ℕ} (i : getD (fieldsOf (drop at s)) (k - n) [] ≡ g) where
@@ -51,23 +52,23 @@ module _ (s : List ℕ) {at e : ℕ} (w : at ≤ length s) (h : e ≡ placeFrom 
     pub index-none : t ≡ false → length s ≤ e → n + 1 ≡ g
     unfolding indexOf
     index-none y l =
-        let f : equal (drop at s) word ≡ false = ap (λ (p : List ℕ). equal p word) (sym (rest-part 44 s w h l)) ∙ sym is ∙ y in
+        let f : equal (drop at s) word ≡ false = ap (λ (p : List ℕ). equal p word) (sym (rest-part (code ",") s w h l)) ∙ sym is ∙ y in
         let z : indexOf word (fieldsOf (drop at s)) ≡ 1 = rw (fields-end l, f) in
         omega arith
 
 -- ---- how many fields there are, by the commas before k
 module _ (s : List ℕ) (k n : ℕ) {g : ℕ} (i : n + length (fieldsOf (drop k s)) ≡ suc g) where
-  pub count-comma : k < length s → getD s k 0 ≡ 44 → n + 1 + length (fieldsOf (drop (k + 1) s)) ≡ suc g
+  pub count-comma : k < length s → getD s k 0 ≡ code "," → n + 1 + length (fieldsOf (drop (k + 1) s)) ≡ suc g
   unfolding fieldsOf split inFront
-  count-comma h e = let z : length (split 44 (drop k s)) ≡ suc (length (split 44 (drop (k + 1) s))) = rw (drop-at s k h, eq-eqb _ _ e) in omega arith
+  count-comma h e = let z : length (split (code ",") (drop k s)) ≡ suc (length (split (code ",") (drop (k + 1) s))) = rw (drop-at s k h, eq-eqb _ _ e) in omega arith
 
-  pub count-other : k < length s → (getD s k 0 ≡ 44 → ⊥) → n + length (fieldsOf (drop (k + 1) s)) ≡ suc g
+  pub count-other : k < length s → (getD s k 0 ≡ code "," → ⊥) → n + length (fieldsOf (drop (k + 1) s)) ≡ suc g
   unfolding fieldsOf split inFront
   count-other h e =
-      let q = split-some 44 (drop (k + 1) s) in
-      let z : length (split 44 (drop k s)) ≡ length (split 44 (drop (k + 1) s)) = rw (drop-at s k h, ne-eqb _ _ e, q .2) in
+      let q = split-some (code ",") (drop (k + 1) s) in
+      let z : length (split (code ",") (drop k s)) ≡ length (split (code ",") (drop (k + 1) s)) = rw (drop-at s k h, ne-eqb _ _ e, q .2) in
       omega arith
 
   pub count-end : length s ≤ k → n ≡ g
   unfolding fieldsOf split
-  count-end h = let z : length (split 44 (drop k s)) ≡ 1 = rw (drop-of-length-le s h) in omega arith
+  count-end h = let z : length (split (code ",") (drop k s)) ≡ 1 = rw (drop-of-length-le s h) in omega arith

@@ -12,6 +12,7 @@ use mathlib.Core.List.{List, [], _∷_}
 use mathlib.Core.Logic.{⊎-elim}
 use mathlib.Core.Path.{_≡_, refl, sym, ap, _∙_}
 use Prim.Native.Nat.{ℕ, suc, _+_, _-_, _≤_, _<_}
+use Prim.Native.Char.{code}
 use native.Mathlib.Nat.{eq-or-lt-of-le}
 use native.Mathlib.Numerals.{add-one}
 use native.Mathlib.Omega.{arith}
@@ -127,14 +128,14 @@ module _ (c : ℕ) (s : List ℕ) {at e : ℕ} (w : at ≤ length s) (h : e ≡ 
       ⊎-elim (λ all. ([], split-end (omega arith) ∙ ap (λ (p : List ℕ). p ∷ []) (sym (rest-part (omega arith)))))
       (λ more. (split c (drop (e + 1) s), split-at more)) (eq-or-lt-of-le place-inside)
 
-module _ (s : List ℕ) {at e : ℕ} (w : at ≤ length s) (h : e ≡ placeFrom 10 at s) where
+module _ (s : List ℕ) {at e : ℕ} (w : at ≤ length s) (h : e ≡ placeFrom (code "\n") at s) where
   pub lines-at : e < length s → linesOf (drop at s) ≡ lineThen (take (e - at) (drop at s)) (linesOf (drop (e + 1) s))
   unfolding linesOf lastApart
-  lines-at l = let q = split-some 10 (drop (e + 1) s) in rw (split-at 10 s w h l, q .2)
+  lines-at l = let q = split-some (code "\n") (drop (e + 1) s) in rw (split-at (code "\n") s w h l, q .2)
 
   pub lines-rest : length s ≤ e → linesOf (drop at s) ≡ record { whole = []; rest = drop at s }
   unfolding linesOf lastApart
-  lines-rest l = ap lastApart (split-end 10 s w h l)
+  lines-rest l = ap lastApart (split-end (code "\n") s w h l)
 
 pub lines-none : {at : ℕ} (s : List ℕ) → length s ≤ at → linesOf (drop at s) ≡ record { whole = []; rest = [] }
 unfolding linesOf split lastApart
@@ -158,9 +159,9 @@ apart-few p (q ∷ ps) = ap suc (apart-few q ps)
 pub lines-few : (s : List ℕ) → length (linesOf s .whole) ≤ length s
 unfolding linesOf
 lines-few s =
-    let q = split-some 10 s in
-    let parts : length (split 10 s) ≡ suc (length (q .1)) = ap length (q .2) in
-    rw (q .2) (omega (arith, apart-few (q .0) (q .1), split-few 10 s))
+    let q = split-some (code "\n") s in
+    let parts : length (split (code "\n") s) ≡ suc (length (q .1)) = ap length (q .2) in
+    rw (q .2) (omega (arith, apart-few (q .0) (q .1), split-few (code "\n") s))
 
 -- ---- words
 pub equal-lengths : (k l : List ℕ) → (length k ≡ length l → ⊥) → equal k l ≡ false

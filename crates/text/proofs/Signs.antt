@@ -3,6 +3,7 @@ use mathlib.Core.Bool.{Bool, true, false}
 use mathlib.Core.List.{List, _∷_}
 use mathlib.Core.Path.{_≡_, refl, sym, ap, _∙_, subst}
 use Prim.Native.Nat.{ℕ, zero, suc, _<_, _^_}
+use Prim.Native.Char.{code}
 use native.Mathlib.Nat.{not-suc-le-zero}
 use native.Mathlib.Omega.{arith}
 use borrow.Author.Tests.{ltb-true}
@@ -36,7 +37,7 @@ pos-up : (z : ℤ) → ltZ z (pos 0) ≡ false → T (nonNeg z)
 pos-up (pos n) e = tt
 pos-up (negsuc n) e = let o : _≡_ {A = ℕ} 0 1 = cc in omega arith
 
-minus : (z : ℤ) → ltZ z (pos 0) ≡ true → intText z ≡ 45 ∷ digits (natAbs z)
+minus : (z : ℤ) → ltZ z (pos 0) ≡ true → intText z ≡ code "-" ∷ digits (natAbs z)
 unfolding intText
 minus (pos n) e = absurd (not-suc-le-zero (ltb-true n 0 e))
 minus (negsuc n) e = refl
@@ -86,8 +87,8 @@ module _ (z : ℤ) (f : SFits w32 z) where
   wrote-read {old} {new} {at} {r} p = subst (λ (y : ℤ). Wrote old at (intText y) new r) (toZ-ofZ f) p
 
   module _ {n : ℕ} (h : n ≡ natAbs (read z)) where
-    pub text-minus : ltZ (read z) (pos 0) ≡ true → intText z ≡ 45 ∷ digits n
-    text-minus e = minus z (sign e) ∙ ap (λ (m : ℕ). 45 ∷ digits m) (sym (h ∙ ap natAbs (toZ-ofZ f)))
+    pub text-minus : ltZ (read z) (pos 0) ≡ true → intText z ≡ code "-" ∷ digits n
+    text-minus e = minus z (sign e) ∙ ap (λ (m : ℕ). code "-" ∷ digits m) (sym (h ∙ ap natAbs (toZ-ofZ f)))
 
     pub text-no-minus : ltZ (read z) (pos 0) ≡ false → intText z ≡ digits n
     text-no-minus e = no-minus z (sign e) ∙ ap digits (sym (h ∙ ap natAbs (toZ-ofZ f)))

@@ -1,10 +1,11 @@
 -- Numbers in base ten (document 01: "Numbers have no plus, leading zero or -0").
 --   malformed outOfRange   document 01's numbers for a wrong form and for a number out of its range
---   isDigit b              b is one of the bytes 48 to 57
+--   isDigit b              b is one of the characters 0 to 9
 --   unsignedForm l         l is 0, or digits of which the first is not 0
---   negative l             l starts with a minus, byte 45
+--   negative l             l starts with a minus
 --   unsigned l             l without its minus
 --   numberForm l           l is a number: not -0, and unsigned or a minus and an unsigned number
+--   digitValue b           the value of a digit; 0 for a byte below the digits
 --   decimal n l            the value of the digits of n and then those of l
 --   numberValue l          the value of l without its sign, at any length
 --   ceiling                past every range; a value that is read is held here
@@ -16,9 +17,11 @@
 use mathlib.Core.Bool.{Bool, true, false, _&&_, not, cond}
 use mathlib.Core.List.{List, [], _∷_}
 use Prim.Native.Nat.{ℕ, _+_, _*_, _-_, min}
+use Prim.Native.Char.{code}
 use lib.Dec.{eqb, leb}
 use lib.ListN.{drop}
 use Rattle.node.specs.Lists.{allOf}
+use Rattle.node.specs.Texts.{bytes}
 use Rattle.rules.specs.Answers.{Answer, refused, done, need}
 use Rattle.text.specs.declared.Number.the-variants as number
 use Rattle.text.specs.declared.Number.{Number}
@@ -33,24 +36,27 @@ abbrev pub outOfRange : ℕ
 outOfRange = 12
 
 unfoldable pub isDigit : ℕ → Bool
-isDigit b = leb 48 b && leb b 57
+isDigit b = leb (code "0") b && leb b (code "9")
 
 unfoldable pub unsignedForm : List ℕ → Bool
 unsignedForm [] = false
-unsignedForm (b ∷ l) = cond (eqb b 48) (equal l []) (allOf isDigit (b ∷ l))
+unsignedForm (b ∷ l) = cond (eqb b (code "0")) (equal l []) (allOf isDigit (b ∷ l))
 
 unfoldable pub negative : List ℕ → Bool
-negative l = startsWith (45 ∷ []) l
+negative l = startsWith (bytes "-") l
 
 unfoldable pub unsigned : List ℕ → List ℕ
 unsigned l = cond (negative l) (drop 1 l) l
 
 unfoldable pub numberForm : List ℕ → Bool
-numberForm l = not (equal l (45 ∷ 48 ∷ [])) && unsignedForm (unsigned l)
+numberForm l = not (equal l (bytes "-0")) && unsignedForm (unsigned l)
+
+abbrev pub digitValue : ℕ → ℕ
+digitValue b = b - code "0"
 
 unfoldable pub decimal : ℕ → List ℕ → ℕ
 decimal n [] = n
-decimal n (b ∷ l) = decimal (n * 10 + (b - 48)) l
+decimal n (b ∷ l) = decimal (n * 10 + digitValue b) l
 
 unfoldable pub numberValue : List ℕ → ℕ
 numberValue l = decimal 0 (unsigned l)

@@ -14,6 +14,7 @@
 use mathlib.Core.Bool.{Bool, true, false, _&&_, cond}
 use mathlib.Core.List.{List, [], _∷_}
 use Prim.Native.Nat.{ℕ, suc, _+_, min}
+use Prim.Native.Char.{code}
 use lib.Dec.{eqb}
 use lib.ListN.{length, take, drop}
 
@@ -34,7 +35,7 @@ split c [] = [] ∷ []
 split c (b ∷ l) = inFront (eqb b c) b (split c l)
 
 unfoldable pub fieldsOf : List ℕ → List (List ℕ)
-fieldsOf line = split 44 line
+fieldsOf line = split (code ",") line
 
 pub record Lines : Type 0 where
   pub whole : List (List ℕ)
@@ -49,7 +50,7 @@ lastApart (p ∷ []) = record { whole = []; rest = p }
 lastApart (p ∷ q ∷ ps) = lineThen p (lastApart (q ∷ ps))
 
 unfoldable pub linesOf : List ℕ → Lines
-linesOf text = lastApart (split 10 text)
+linesOf text = lastApart (split (code "\n") text)
 
 unfoldable pub equal : List ℕ → List ℕ → Bool
 equal [] [] = true

@@ -12,6 +12,7 @@
 use mathlib.Core.Bool.{cond}
 use mathlib.Core.List.{List, [], _∷_}
 use Prim.Native.Nat.{ℕ}
+use Prim.Native.Char.{code}
 use lib.Dec.{eqb, leb}
 use lib.IntN.{pos, negℤ}
 use Rattle.node.specs.Values.{intZero, pid}
@@ -44,9 +45,9 @@ rangedValue make n = record { refusal = n .refusal; value = make (n .number) }
 
 unfoldable pub byLetter : ℕ → List ℕ → Parsed
 byLetter b l =
-    cond (eqb b 105) (intOf (numberOf l))
-    (cond (eqb b 97) (rangedValue Atom (rangedOf (numberOf l) 0 255))
-    (cond (eqb b 112) (rangedValue pid (rangedOf (numberOf l) 1 16))
+    cond (eqb b (code "i")) (intOf (numberOf l))
+    (cond (eqb b (code "a")) (rangedValue Atom (rangedOf (numberOf l) 0 255))
+    (cond (eqb b (code "p")) (rangedValue pid (rangedOf (numberOf l) 1 16))
     (noValue malformed)))
 
 unfoldable pub valueOf : List ℕ → Parsed
@@ -54,9 +55,9 @@ valueOf [] = noValue malformed
 valueOf (b ∷ l) = byLetter b l
 
 abbrev pub letterOf : Value → ℕ
-letterOf (Int z) = 105
-letterOf (Atom a) = 97
-letterOf (Pid i) = 112
+letterOf (Int z) = code "i"
+letterOf (Atom a) = code "a"
+letterOf (Pid i) = code "p"
 
 unfoldable pub numberText : Value → List ℕ
 numberText (Int z) = intText z

@@ -10,6 +10,7 @@ use mathlib.Core.Bool.{Bool, true, false}
 use mathlib.Core.List.{List, [], _∷_, _++_}
 use mathlib.Core.Path.{_≡_}
 use Prim.Native.Nat.{ℕ, zero, suc, _+_, _/_, _%_, _≤_, min}
+use Prim.Native.Char.{code}
 use lib.Dec.{ltb}
 use lib.IntN.{ℤ, pos, negsuc}
 use lib.ListN.{length}
@@ -26,16 +27,16 @@ pub record Wrote (old : List ℕ) (at : ℕ) (text new : List ℕ) (r : ℕ) : T
   pub short : length old ≤ top
 
 unfoldable pub digitsIn : ℕ → Bool → ℕ → List ℕ
-digitsIn zero t n = (48 + n) ∷ []
-digitsIn (suc f) true n = (48 + n) ∷ []
-digitsIn (suc f) false n = digitsIn f (ltb (n / 10) 10) (n / 10) ++ ((48 + n % 10) ∷ [])
+digitsIn zero t n = (code "0" + n) ∷ []
+digitsIn (suc f) true n = (code "0" + n) ∷ []
+digitsIn (suc f) false n = digitsIn f (ltb (n / 10) 10) (n / 10) ++ ((code "0" + n % 10) ∷ [])
 
 unfoldable pub digits : ℕ → List ℕ
 digits n = digitsIn n (ltb n 10) n
 
 unfoldable pub intText : ℤ → List ℕ
 intText (pos n) = digits n
-intText (negsuc n) = 45 ∷ digits (suc n)
+intText (negsuc n) = code "-" ∷ digits (suc n)
 
 unfoldable pub each : {X : Type 0} → (X → List ℕ) → List X → List ℕ
 each f [] = []

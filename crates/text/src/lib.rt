@@ -4,12 +4,12 @@ use node::ProcessNumber;
 use node::Value;
 ghost use mathlib.Core.Path.{_≡_};
 ghost use mathlib.Core.List.{[], _∷_};
-ghost use Prim.Native.Nat.{_+_, _*_, _-_, min};
+ghost use Prim.Native.Nat.{_+_, _*_, min};
 ghost use lib.IntN.{natAbs};
 ghost use lib.ListN.{length, getD};
 ghost use Rattle.node.specs.Lists.{allOf};
 ghost use Rattle.text.specs.Parts.{placeFrom, fieldsOf, indexOf, equal, startsWith};
-ghost use Rattle.text.specs.Numbers.{isDigit, unsignedForm, decimal, ceiling, signedOf, numberOf, noNumber, rangedOf};
+ghost use Rattle.text.specs.Numbers.{isDigit, unsignedForm, digitValue, decimal, ceiling, signedOf, numberOf, noNumber, rangedOf};
 ghost use Rattle.text.specs.Values.{noValue, plusOf, minusOf, intOf, valueOf, letterOf, valueText};
 ghost use Rattle.text.specs.Writing.{Wrote, digits, intText};
 
@@ -270,7 +270,7 @@ pub fn put_value(out: &mut [u8], at: usize, v: Value) -> usize
 
 // The value of a digit; 0 for a byte below the digits.
 fn digit(b: u8) -> u64
-    ensures { λ r. ⌜ r ≡ b - 48 ⌝ }
+    ensures { λ r. ⌜ r ≡ digitValue b ⌝ }
 {
     if b < b'0' {
         return 0;
@@ -280,7 +280,7 @@ fn digit(b: u8) -> u64
 
 // The value with one digit more, held at the ceiling.
 fn held(n: u64, b: u8) -> u64
-    ensures { λ r. ⌜ r ≡ min (n * 10 + (b - 48)) ceiling ⌝ }
+    ensures { λ r. ⌜ r ≡ min (n * 10 + digitValue b) ceiling ⌝ }
 {
     if CEILING <= n {
         return CEILING;

@@ -1,6 +1,7 @@
 -- `read` gives the steps of a text. The invariant: the lines before the place are steps, and those are stored. Assumes nothing.
 use mathlib.Core.Path.{refl, ap}
 use Prim.Native.Nat.{_-_, _≤_}
+use Prim.Native.Char.{code}
 use native.Mathlib.Omega.{arith}
 use borrow.Author.Needs.{needs}
 use borrow.Author.Tests.{lt-ltb}
@@ -46,17 +47,17 @@ returns-2 c =
 sub-read-line : tie.Need-sub-read-line Inv-loop μ-loop
 sub-read-line c =
     let turn = c .before .before .before .loop in
-    place-after 10 _ (turn .inv .0) (c .before .find .ensures)
+    place-after (code "\n") _ (turn .inv .0) (c .before .find .ensures)
 
 part-read-line-start : tie.Need-part-read-line-start Inv-loop μ-loop
 part-read-line-start c =
     let turn = c .before .before .before .loop in
-    place-after 10 _ (turn .inv .0) (c .before .find .ensures)
+    place-after (code "\n") _ (turn .inv .0) (c .before .find .ensures)
 
 part-read-line-end : tie.Need-part-read-line-end Inv-loop μ-loop
 part-read-line-end c =
     let turn = c .before .before .before .loop in
-    place-inside 10 _ (turn .inv .0) (c .before .find .ensures)
+    place-inside (code "\n") _ (turn .inv .0) (c .before .find .ensures)
 
 read-line-requires : tie.Need-read-line-requires Inv-loop μ-loop
 read-line-requires c κs = search needs
@@ -99,7 +100,7 @@ loop-less : tie.Need-loop-less Inv-loop μ-loop
 loop-less c =
     let find = c .before .before .before .before .before .before .before .before .before .find in
     let turn = c .before .before .before .before .before .before .before .before .before .before .before .loop in
-    omega (arith, place-after 10 _ (turn .inv .0) (find .ensures))
+    omega (arith, place-after (code "\n") _ (turn .inv .0) (find .ensures))
 
 loop-again : tie.Need-loop-again Inv-loop μ-loop
 loop-again c =
@@ -109,7 +110,7 @@ loop-again c =
     let read-line = c .before .before .before .before .before .before .read-line in
     let turn = c .before .before .before .before .before .before .before .before .before .before .before .loop in (
       search needs,
-      omega (arith, place-after 10 _ (turn .inv .0) (find .ensures)),
+      omega (arith, place-after (code "\n") _ (turn .inv .0) (find .ensures)),
       turn .inv .2,
       so-more (turn .inv .3) (turn .inv .2) (turn .inv .0) (find .ensures) (if2 .left) (read-line .ensures) (ap lineOf (line .given .1)) (c .before .store .ensures),
     )

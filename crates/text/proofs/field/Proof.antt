@@ -2,6 +2,7 @@
 use mathlib.Core.List.{[]}
 use mathlib.Core.Path.{_≡_}
 use Prim.Native.Nat.{_-_, _≤_}
+use Prim.Native.Char.{code}
 use native.Mathlib.Nat.{sub-zero}
 use borrow.Author.Needs.{needs}
 use lib.ListN.{length, drop, getD}
@@ -52,13 +53,13 @@ find-requires-2 : tie.Need-find-requires-2 Inv-loop μ-loop
 find-requires-2 c κs = search needs
 
 sub-result : tie.Need-sub-result Inv-loop μ-loop
-sub-result c = place-after 44 _ (c .before .before .loop .inv .0) (c .find2 .ensures)
+sub-result c = place-after (code ",") _ (c .before .before .loop .inv .0) (c .find2 .ensures)
 
 part-result-start : tie.Need-part-result-start Inv-loop μ-loop
-part-result-start c = place-after 44 _ (c .before .before .loop .inv .0) (c .find2 .ensures)
+part-result-start c = place-after (code ",") _ (c .before .before .loop .inv .0) (c .find2 .ensures)
 
 part-result-end : tie.Need-part-result-end Inv-loop μ-loop
-part-result-end c = place-inside 44 _ (c .before .before .loop .inv .0) (c .find2 .ensures)
+part-result-end c = place-inside (code ",") _ (c .before .before .loop .inv .0) (c .find2 .ensures)
 
 returns-2 : tie.Need-returns-2 Inv-loop μ-loop
 returns-2 c =

@@ -1,7 +1,7 @@
 -- `read_number` gives the number that a text is, at any length. Assumes nothing.
-use mathlib.Core.List.{[], _∷_}
 use mathlib.Core.Path.{sym, _∙_}
 use borrow.Author.Needs.{needs}
+use Rattle.node.specs.Texts.{bytes}
 use Rattle.text.proofs.Numbers.{number-zero, number-minus, number-minus-bad, number-plus, number-plus-bad}
 use Rattle.text.proofs.Parts.{starts-long}
 use Rattle.text.proofs.read_number.Statement.{statement}
@@ -23,10 +23,10 @@ starts-requires : tie.Need-starts-requires
 starts-requires c κs = search needs
 
 sub-t : tie.Need-sub-t
-sub-t c = starts-long (45 ∷ []) _ (sym (c .before .starts .ensures) ∙ c .if2 .taken)
+sub-t c = starts-long (bytes "-") _ (sym (c .before .starts .ensures) ∙ c .if2 .taken)
 
 part-t-start : tie.Need-part-t-start
-part-t-start c = starts-long (45 ∷ []) _ (sym (c .before .starts .ensures) ∙ c .if2 .taken)
+part-t-start c = starts-long (bytes "-") _ (sym (c .before .starts .ensures) ∙ c .if2 .taken)
 
 part-t-end : tie.Need-part-t-end
 part-t-end c = search needs

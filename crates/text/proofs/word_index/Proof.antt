@@ -1,6 +1,7 @@
 -- `word_index` gives the index of a word in a table. The invariant: n and the words from the place on give it. Assumes nothing.
 use mathlib.Core.Path.{_≡_}
 use Prim.Native.Nat.{_+_, _-_, _≤_}
+use Prim.Native.Char.{code}
 use native.Mathlib.Omega.{arith}
 use borrow.Author.Needs.{needs}
 use lib.ListN.{length, drop}
@@ -23,13 +24,13 @@ find-requires : tie.Need-find-requires Inv-loop μ-loop
 find-requires c κs = search needs
 
 sub-same : tie.Need-sub-same Inv-loop μ-loop
-sub-same c = place-after 44 _ (c .before .loop .inv .0) (c .find .ensures)
+sub-same c = place-after (code ",") _ (c .before .loop .inv .0) (c .find .ensures)
 
 part-same-start : tie.Need-part-same-start Inv-loop μ-loop
-part-same-start c = place-after 44 _ (c .before .loop .inv .0) (c .find .ensures)
+part-same-start c = place-after (code ",") _ (c .before .loop .inv .0) (c .find .ensures)
 
 part-same-end : tie.Need-part-same-end Inv-loop μ-loop
-part-same-end c = place-inside 44 _ (c .before .loop .inv .0) (c .find .ensures)
+part-same-end c = place-inside (code ",") _ (c .before .loop .inv .0) (c .find .ensures)
 
 same-requires : tie.Need-same-requires Inv-loop μ-loop
 same-requires c κs = search needs
@@ -60,14 +61,14 @@ loop-less : tie.Need-loop-less Inv-loop μ-loop
 loop-less c =
     let turn = c .before .before .before .before .before .loop in
     let find = c .before .before .before .before .find in
-    omega (arith, place-after 44 _ (turn .inv .0) (find .ensures))
+    omega (arith, place-after (code ",") _ (turn .inv .0) (find .ensures))
 
 loop-again : tie.Need-loop-again Inv-loop μ-loop
 loop-again c =
     let turn = c .before .before .before .before .before .loop in
     let find = c .before .before .before .before .find in
     let same = c .before .before .same in
-    (search needs, omega (arith, place-after 44 _ (turn .inv .0) (find .ensures)), index-next _ (turn .inv .0) (find .ensures) _ _ (turn .inv .2) (same .ensures) (c .before .if1 .left) (c .if2 .left))
+    (search needs, omega (arith, place-after (code ",") _ (turn .inv .0) (find .ensures)), index-next _ (turn .inv .0) (find .ensures) _ _ (turn .inv .2) (same .ensures) (c .before .if1 .left) (c .if2 .left))
 
 pub word-index-spec : {M : Type 1} → statement M
 word-index-spec =
