@@ -13,9 +13,10 @@ use Prim.Native.Nat.{ℕ, _+_, _≤_, _<_}
 use native.Mathlib.Numerals.{add-one}
 use native.Mathlib.Omega.{arith}
 use borrow.Author.Tests.{le-leb}
-use lib.ListN.{length, drop, getD, length-map, List·getD-map, drop-of-length-le}
+use lib.ListN.{length, drop, getD, drop-of-length-le}
 use lib.Seq.{drop-cons}
-use Rattle.node.proofs.Lists.{firsts-length, firsts-getD}
+use Rattle.node.proofs.Contents.{signals-length}
+use Rattle.node.proofs.Lists.{held-at, held-length}
 use Rattle.node.specs.declared.Cell.{Cell}
 use Rattle.node.specs.declared.Mailbox.{Mailbox}
 use Rattle.node.specs.declared.Message.{Message}
@@ -32,7 +33,6 @@ use Rattle.node.specs.Sets.{has}
 use Rattle.node.specs.Rows.{signals, noSignal}
 use Rattle.node.specs.Texts.{bytes}
 use Rattle.rules.proofs.All.{rising-at}
-use Rattle.rules.proofs.Kept.{signals-length}
 use Rattle.rules.specs.Nodes.{standing, standingIn, setOf}
 use Rattle.rules.specs.Values.{numbers, isNumber}
 use Rattle.text.proofs.Writing.{Left, left-all, left-more, left-none, left-item, left-end, wrote-then}
@@ -57,18 +57,12 @@ drop-next xs k d h = rw add-one (drop-cons xs k d h)
 
 -- ---- a loop that writes what an array and its count hold: the elements at first, and blanks past its end
 module _ {A B : Type 0} (f : A → B) (d : A) (n : ℕ) (l : List A) where
-  held-length : length (map f (firsts d n l)) ≡ n
-  held-length = length-map (firsts d n l) f ∙ firsts-length d n l
-
-  held-at : (k : ℕ) → k < n → getD (map f (firsts d n l)) k (f d) ≡ f (getD l k d)
-  held-at k h = List·getD-map f (firsts d n l) k d ∙ ap f (firsts-getD d n l k h)
-
   module _ (t : B → List ℕ) (k : ℕ) {o text m : List ℕ} {a e : ℕ} (p : Left o a text m e (each t (drop k (map f (firsts d n l))))) where
     left-held : (x : B) {u : List ℕ} {r : ℕ} → k < n → x ≡ f (getD l k d) → Wrote m e (t x) u r → Left o a text u r (each t (drop (k + 1) (map f (firsts d n l))))
-    left-held x h g q = left-item t (map f (firsts d n l)) k p (f d) (rw held-length h) (rw (held-at k h, ← g) q)
+    left-held x h g q = left-item t (map f (firsts d n l)) k p (f d) (rw (held-length f d n l) h) (rw (held-at f d n l k h, ← g) q)
 
     left-held-end : n ≤ k → Wrote o a text m e
-    left-held-end h = left-end t (map f (firsts d n l)) k p (rw held-length h)
+    left-held-end h = left-end t (map f (firsts d n l)) k p (rw (held-length f d n l) h)
 
 module _ (b : Mailbox) (k : ℕ) {o text m : List ℕ} {a e : ℕ} (p : Left o a text m e (each messageLine (drop k (messages b)))) where
   pub left-message : {x : Message} {u : List ℕ} {r : ℕ} → k < b .count → x ≡ getD (b .slots) k noMessage .message → Wrote m e (messageLine x) u r

@@ -3,7 +3,7 @@
 use mathlib.Core.Bool.{Bool, true, false, cond}
 use mathlib.Core.List.{List, [], _∷_}
 use mathlib.Core.Option.{Option, none, some}
-use mathlib.Core.Path.{_≡_, refl, sym, _∙_, ap}
+use mathlib.Core.Path.{_≡_, refl, sym, _∙_}
 use Prim.Native.Nat.{ℕ, zero, suc, _+_, _<_, _≤_, min}
 use native.Mathlib.Nat.{zero-add}
 use native.Mathlib.Numerals.{add-one}
@@ -18,12 +18,11 @@ use Rattle.node.specs.declared.Message.{Message}
 use Rattle.node.specs.declared.Message.the-variants.{Plain, Note}
 use Rattle.node.specs.declared.Op.{Op}
 use Rattle.node.specs.declared.ProcessNumber.{ProcessNumber}
-use Rattle.node.specs.declared.Slot.{Slot}
 use Rattle.node.specs.declared.Value.{Value}
 use Rattle.node.specs.declared.Value.the-variants.{Int, Atom, Pid}
 use Rattle.node.specs.Mailboxes.{noMessage, messages}
 use Rattle.node.specs.Nodes.{noOp}
-use Rattle.node.proofs.Lists.{held-length, held-at}
+use Rattle.node.proofs.Contents.{messages-at, messages-length}
 use Rattle.rules.specs.Answers.{Answer, refused, done, noFit}
 use Rattle.rules.specs.Effects.{State}
 use Rattle.rules.specs.Receive.{Fit, isInt, isAtom, isPid, isNote, isValue, fits, firstClause, search, receivesFit}
@@ -32,23 +31,15 @@ use Rattle.receive.specs.Answers.{Indices, firstAt, searchAt, fitAt, rec
 use Rattle.receive.specs.declared.Received.{Received}
 
 module _ (m : Mailbox) where
-  messages-length : length (messages m) ≡ m .count
-  unfolding messages
-  messages-length = held-length (λ (s : Slot). s .message) noMessage (m .count) (m .slots)
-
-  messages-at : (i : ℕ) → i < m .count → getD (messages m) i (noMessage .message) ≡ getD (m .slots) i noMessage .message
-  unfolding messages
-  messages-at i h = held-at (λ (s : Slot). s .message) noMessage (m .count) (m .slots) i h
-
   -- one message more
   pub message-turn : (cs : List Op) (i : ℕ) → i < m .count →
       searchAt cs i (drop i (messages m)) ≡ firstAt cs 0 i (getD (m .slots) i noMessage .message) (searchAt cs (i + 1) (drop (i + 1) (messages m)))
   message-turn cs i h =
-      let l : i < length (messages m) = rw messages-length h in
-      rw (drop-cons (messages m) i (noMessage .message) l, messages-at i h, add-one)
+      let l : i < length (messages m) = rw (messages-length m) h in
+      rw (drop-cons (messages m) i (noMessage .message) l, messages-at m i h, add-one)
 
   pub message-end : (cs : List Op) (i : ℕ) → m .count ≤ i → searchAt cs i (drop i (messages m)) ≡ refused noFit
-  message-end cs i h = rw (drop-of-length-le (messages m) {i = i} (rw messages-length h))
+  message-end cs i h = rw (drop-of-length-le (messages m) {i = i} (rw (messages-length m) h))
 
 module _ (clauses : List Op) (eight : length clauses ≡ 8) (n : ℕ) (i : ℕ) (x : Message) (later : Answer Indices) where
   clause-turn : (k : ℕ) → k < min n 8 → drop k (take n clauses) ≡ getD clauses k noOp ∷ drop (k + 1) (take n clauses)
@@ -107,7 +98,7 @@ module _ (clauses : List Op) (n : ℕ) (m : Mailbox) where
       search-by (λ k. getD clauses k noOp) (λ i. getD (m .slots) i noMessage .message) (take n clauses)
       (λ j h. let l : j < n = (let g = rw length-take at h in omega arith) in sym (getD-take n clauses j noOp l))
       0 (messages m)
-      (λ j h. rw zero-add (sym (messages-at m j (rw messages-length at h))))
+      (λ j h. rw zero-add (sym (messages-at m j (rw (messages-length m) at h))))
 
   pub search-none : searchAt (take n clauses) 0 (messages m) ≡ refused noFit → search (take n clauses) 0 (messages m) ≡ none
   search-none e = sym fits-are ∙ rw e

@@ -9,7 +9,7 @@ use native.Mathlib.Decide.{ℕ-discrete}
 use native.Mathlib.Omega.{arith}
 use borrow.Author.Tests.{leb-true, le-leb, ltb-true, le-ltb}
 use lib.Dec.{leb, ltb}
-use lib.ListN.{length, getD, set, length-map}
+use lib.ListN.{length, getD, set}
 use lib.Seq.{getD-set-other}
 use Rattle.node.specs.declared.Cell.{Cell}
 use Rattle.node.specs.declared.Mailbox.{Mailbox}
@@ -21,7 +21,8 @@ use Rattle.node.specs.Lists.{firsts, rising, allFrom, allOf}
 use Rattle.node.specs.Mailboxes.{emptied, sixteenSlots}
 use Rattle.node.specs.Nodes.{noProcess, noMailbox, noRow, pair}
 use Rattle.node.specs.Rows.{noSignal, signals, pushed, popped}
-use Rattle.node.proofs.Lists.{firsts-length, map-rising-at, map-rising-length}
+use Rattle.node.proofs.Contents.{signals-length}
+use Rattle.node.proofs.Lists.{map-rising-at, map-rising-length}
 use Rattle.rules.specs.Answers.{Answer, refused, done}
 use Rattle.rules.specs.Behaviours.{Instruction, instruction, codeSound}
 use Rattle.rules.specs.Effects.{Effect, Sending, Birth}
@@ -104,10 +105,6 @@ module _ (n : Node) where
       map-rising-at g 1 (n .count) (b - 1) [] (omega arith) ∙ ap g e
 
 -- ---- rows
-
-pub signals-length : (r : Row) → length (signals r) ≡ r .count
-unfolding signals
-signals-length r = length-map (firsts noSignal (r .count) (r .cells)) (λ (c : Cell). c .signal) ∙ firsts-length noSignal (r .count) (r .cells)
 
 module _ (j i : ℕ) where
   abbrev pub RowOk : Row → Type 0

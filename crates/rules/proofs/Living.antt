@@ -2,12 +2,12 @@
 -- change keeps of them. Assumes nothing.
 use mathlib.Core.Bool.{Bool, true, false, not, So, cond, _&&_}
 use mathlib.Core.List.{List, []}
-use mathlib.Core.Path.{_≡_, refl, sym, _∙_, ap, subst}
+use mathlib.Core.Path.{_≡_, refl, sym, ap, subst}
 use Prim.Native.Nat.{ℕ, suc, _+_, _-_, _≤_, _<_, min}
 use native.Mathlib.Omega.{arith}
 use borrow.Author.Tests.{leb-true, le-leb, eqb-false, not-true}
 use lib.Dec.{leb, eqb}
-use lib.ListN.{length, getD, length-map}
+use lib.ListN.{length, getD}
 use Rattle.node.specs.declared.Mailbox.{Mailbox}
 use Rattle.node.specs.declared.Message.{Message}
 use Rattle.node.specs.declared.Peers.{Peers}
@@ -21,7 +21,7 @@ use Rattle.node.specs.Mailboxes.{noMessage, messages, joined, without, emptied}
 use Rattle.node.specs.Processes.{register, withRegister, withRegisters, moved, trapped, linked, unlinked}
 use Rattle.node.specs.Sets.{noPeers, has, withPeer, withoutPeer}
 use Rattle.node.proofs.Sets.{has-none, has-with-other, has-without-false}
-use Rattle.node.proofs.Lists.{firsts-length}
+use Rattle.node.proofs.Contents.{messages-length}
 use Rattle.rules.specs.Behaviours.{Instruction, onClause}
 use Rattle.rules.specs.Nodes.{standingIn, standing, setOf, runningSound, standingSound}
 use Rattle.rules.specs.Steps.{isUnborn}
@@ -95,11 +95,6 @@ module _ (codes : List (List Instruction)) (i : ℕ) (p : Process) (m : Mailbox)
       let t : So (standingSound codes i (standingIn Live p m)) =
       both (both (both (both (both (both (x .known) (x .within)) (x .off)) (both (v .v0) (both (v .v1) (both (v .v2) (both (v .v3) refl))))) (a .mailed .few)) (a .mailed .sound)) (a .apart) in
       subst (λ (s : Stage). So (standingSound codes i (standingIn s p m))) (sym (a .stage)) t
-
--- the number of messages is the count
-pub messages-length : (m : Mailbox) → length (messages m) ≡ m .count
-unfolding messages
-messages-length m = length-map (firsts noMessage (m .count) (m .slots)) (λ (s : Slot). s .message) ∙ firsts-length noMessage (m .count) (m .slots)
 
 messageOk : Slot → Bool
 messageOk s = messageSound (s .message)
