@@ -24,7 +24,7 @@ use Rattle.placement.specs.Misplaced.{firstCode}
 use Rattle.plan_line.proofs.Refusals.{Low, header-told, count-told, op-told, start-told}
 use Rattle.plan_line.specs.Lines.{behavioursKey, codeKey, startsKey, headerLine, countLine, opLine, startLine}
 use Rattle.plan.specs.declared.Loaded.{Loaded}
-use Rattle.plan.specs.Plans.{Plan, tooLong, illPlaced, beforeFirst, lastFrom, more, codeLines, startMore, startLines, planLines, misplaced, nodeOf, refusedLoad, checked, loadedFrom, loadOf}
+use Rattle.plan.specs.Plans.{Plan, textTooLong, illPlaced, beforeFirst, lastFrom, more, codeLines, startMore, startLines, planLines, misplaced, nodeOf, refusedLoad, checked, loadedFrom, loadOf}
 use Rattle.plan.specs.Reading.{Left, Read, bad, good, judged, firstOf, onLine, thenOn, times, nothingIn, endOf}
 use Rattle.plan.proofs.Behaviours.{behaviours-of}
 use Rattle.plan.proofs.Kept.{codeKept, PlanKept, plan-kept}
@@ -146,6 +146,6 @@ load-told text = go (ltb 16384 (length text)) refl
     all : Left
     all = record { text = linesOf text; first = 1 }
 
-    go : (b : Bool) → ltb 16384 (length text) ≡ b → LoadLow (cond b (refusedLoad tooLong 0) (loadedFrom (planLines (record { text = linesOf text; first = 1 }))))
-    go true e = refused-low tooLong 0 (omega arith) (omega arith)
+    go : (b : Bool) → ltb 16384 (length text) ≡ b → LoadLow (cond b (refusedLoad textTooLong 0) (loadedFrom (planLines (record { text = linesOf text; first = 1 }))))
+    go true e = refused-low textTooLong 0 (omega arith) (omega arith)
     go false e = read-low all (planLines all) refl (plan-bounded 16385 all (omega (arith, lines-few text, ltb-false 16384 (length text) e)))

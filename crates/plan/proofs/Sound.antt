@@ -40,7 +40,7 @@ use Rattle.placement.specs.Misplaced.{firstCode}
 use Rattle.placement.proofs.Placed.{misplaced-none}
 use Rattle.plan_line.specs.declared.Start.{Start}
 use Rattle.plan.specs.declared.Loaded.{Loaded}
-use Rattle.plan.specs.Plans.{Plan, tooLong, illPlaced, emptyNode, withCode, withStart, withEach, nodeOf, misplaced, refusedLoad, checked, loadedFrom, planLines, loadOf}
+use Rattle.plan.specs.Plans.{Plan, textTooLong, illPlaced, emptyNode, withCode, withStart, withEach, nodeOf, misplaced, refusedLoad, checked, loadedFrom, planLines, loadOf}
 use Rattle.plan.specs.Reading.{Left, Read, bad, good}
 use Rattle.plan.proofs.Behaviours.{behaviours-of}
 use Rattle.plan.proofs.Kept.{codeKept, startKept, PlanKept, plan-kept}
@@ -219,7 +219,7 @@ pub loaded-sound : (text : List ℕ) → Sound (loadOf text .node)
 unfolding loadOf
 loaded-sound text =
     let all : Left = record { text = linesOf text; first = 1 } in
-    either (λ (r : Loaded). Sound (r .node)) (ltb 16384 (length text)) _ _ (λ e. refused-sound tooLong 0) (λ e. read-sound all (planLines all) refl)
+    either (λ (r : Loaded). Sound (r .node)) (ltb 16384 (length text)) _ _ (λ e. refused-sound textTooLong 0) (λ e. read-sound all (planLines all) refl)
 
 -- "A refused load gives a blank node"
 Blank : Loaded → Type 0

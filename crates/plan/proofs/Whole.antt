@@ -20,7 +20,7 @@ use Rattle.plan_line.specs.Lines.{behavioursKey, countLine}
 use Rattle.plan.specs.declared.Loaded.{Loaded}
 use Rattle.plan.specs.declared.Mark.{Mark}
 use Rattle.plan.specs.Marks.{mapped, endMark, Reached}
-use Rattle.plan.specs.Plans.{Plan, tooLong, illPlaced, more, codeLines, startLines, planLines, emptyNode, withCode, withStart, withEach, nodeOf, misplaced, refusedLoad, checked, loadedFrom, loadOf}
+use Rattle.plan.specs.Plans.{Plan, textTooLong, illPlaced, more, codeLines, startLines, planLines, emptyNode, withCode, withStart, withEach, nodeOf, misplaced, refusedLoad, checked, loadedFrom, loadOf}
 use Rattle.plan.specs.Reading.{Left, Read, onLine, thenOn, times, endOf}
 use Rattle.plan.proofs.Loops.{told-good, told-bad, mapped-bad, mapped-good, made-stop, made-on}
 use Rattle.plan.proofs.Marks.{end-stopped, end-read}
@@ -59,7 +59,7 @@ unfolding codesOf codeIn behavioursOf code
 codes-of n = refl
 
 module _ (s : List ℕ) where
-  pub load-long : {r : Loaded} → 16384 < length s → r ≡ refusedLoad tooLong 0 → r ≡ loadOf s
+  pub load-long : {r : Loaded} → 16384 < length s → r ≡ refusedLoad textTooLong 0 → r ≡ loadOf s
   unfolding loadOf
   load-long h e = rw (lt-ltb 16384 (length s) h) e
 

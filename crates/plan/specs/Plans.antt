@@ -33,8 +33,8 @@ use Rattle.plan.specs.declared.Loaded.{Loaded}
 use Rattle.plan.specs.Reading.{Left, Read, bad, good, onLine, thenOn, times, endOf}
 
 -- "10 text above 16,384 bytes", "14, looked for after the last line"
-abbrev pub tooLong : ℕ
-tooLong = 10
+abbrev pub textTooLong : ℕ
+textTooLong = 10
 
 abbrev pub illPlaced : ℕ
 illPlaced = 14
@@ -151,5 +151,5 @@ loadedFrom (good p l) = checked p
 
 unfoldable pub loadOf : List ℕ → Loaded
 loadOf text =
-    cond (ltb 16384 (length text)) (refusedLoad tooLong 0)
+    cond (ltb 16384 (length text)) (refusedLoad textTooLong 0)
     (loadedFrom (planLines (record { text = linesOf text; first = 1 })))

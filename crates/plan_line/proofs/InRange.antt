@@ -30,7 +30,7 @@ use Rattle.text.specs.Values.{accepted, byLetter, intOf, minusOf, noValue, plus
 use Rattle.plan_line.specs.declared.Coded.{Coded}
 use Rattle.plan_line.specs.declared.Operand.{Operand}
 use Rattle.plan_line.specs.Lines.{opKey, opTold}
-use Rattle.plan_line.specs.Ops.{bare, clauseKind, clauseWords, codedOf, exact, joined, noCode, operandOf, operandsOf, opOf, opWords, withOperand}
+use Rattle.plan_line.specs.Ops.{bare, clauseKind, clauseWords, codedOf, exact, withJoined, noCode, operandOf, operandsOf, opOf, opWords, withOperand}
 use Rattle.plan_line.proofs.Ops.{kinds-length}
 use Rattle.plan_line.proofs.Ranges.{ranged-kept, worse-none}
 
@@ -166,13 +166,13 @@ module _ (c n : ℕ) where
   unfolding operandsOf
   operands-clean o [] ls h = h
   operands-clean o (k ∷ ks) [] h = h
-  operands-clean o (k ∷ ks) (l ∷ ls) h = worse-none (o .refusal) (operandOf c n k l .refusal) (operands-clean (joined o k (operandOf c n k l)) ks ls h) .0
+  operands-clean o (k ∷ ks) (l ∷ ls) h = worse-none (o .refusal) (operandOf c n k l .refusal) (operands-clean (withJoined o k (operandOf c n k l)) ks ls h) .0
 
   operands-number : (o : Coded) (ks : List ℕ) (ls : List (List ℕ)) → operandsOf c n o ks ls .op .number ≡ o .op .number
   unfolding operandsOf withOperand
   operands-number o [] ls = refl
   operands-number o (k ∷ ks) [] = refl
-  operands-number o (k ∷ ks) (l ∷ ls) = operands-number (joined o k (operandOf c n k l)) ks ls
+  operands-number o (k ∷ ks) (l ∷ ls) = operands-number (withJoined o k (operandOf c n k l)) ks ls
 
   operands-untouched : (o : Coded) (k : ℕ) (ks : List ℕ) (ls : List (List ℕ)) → So (allOf (apart k) ks) → operand (operandsOf c n o ks ls .op) k ≡ operand (o .op) k
   unfolding operandsOf
@@ -180,7 +180,7 @@ module _ (c n : ℕ) where
   operands-untouched o k (j ∷ ks) [] h = refl
   operands-untouched o k (j ∷ ks) (l ∷ ls) h =
       let w = parts (apart k j) (allOf (apart k) ks) h in
-      operands-untouched (joined o j (operandOf c n j l)) k ks ls (w .1) ∙ operand-untouched (o .op) k j (operandOf c n j l) (apart-of k j (w .0))
+      operands-untouched (withJoined o j (operandOf c n j l)) k ks ls (w .1) ∙ operand-untouched (o .op) k j (operandOf c n j l) (apart-of k j (w .0))
 
   abbrev fitting : Op → ℕ → Bool
   fitting o k = operandInRange c n k (operand o k)
@@ -192,7 +192,7 @@ module _ (c n : ℕ) where
   operands-kept o (k ∷ ks) (l ∷ ls) e d h =
       let w = parts (allOf (apart k) ks) (distinct ks) d in
       let read = operandOf c n k l in
-      let next = joined o k read in
+      let next = withJoined o k read in
       let clean = worse-none (o .refusal) (read .refusal) (operands-clean next ks ls h) .1 in
       let here = subst (λ (x : rules.Operand). So (operandInRange c n k x)) (sym (operands-untouched next k ks ls (w .0))) (operand-kept c n (o .op) k l clean) in
       both here (operands-kept next ks ls (omega arith) (w .1) h)

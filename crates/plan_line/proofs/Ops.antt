@@ -16,7 +16,7 @@ use Rattle.text.specs.Parts.{fieldsOf, indexOf}
 use Rattle.text.proofs.Parts.{split-some}
 use Rattle.plan_line.specs.declared.Coded.{Coded}
 use Rattle.plan_line.specs.declared.Operand.{Operand}
-use Rattle.plan_line.specs.Ops.{opWords, operandOf, joined, operandsOf, bare, noCode, opOf, codedOf}
+use Rattle.plan_line.specs.Ops.{opWords, operandOf, withJoined, operandsOf, bare, noCode, opOf, codedOf}
 
 -- ---- the tables
 pub counts-small : (k : ℕ) → getD operandCounts k 0 ≤ 4
@@ -37,7 +37,7 @@ module _ (c n k : ℕ) (l : List ℕ) (i : ℕ) (o : Coded) {g : Coded}
     (inv : operandsOf c n o (drop i (kindsOf k)) (drop i (drop 1 (fieldsOf l))) ≡ g) (number : k < 16) where
   pub operand-more : {kind : ℕ} {field : List ℕ} {x : Operand} {o′ : Coded} → length (drop 1 (fieldsOf l)) ≡ getD operandCounts k 0
       → i < getD operandCounts k 0 → kind ≡ operandKind k i → field ≡ getD (fieldsOf l) (i + 1) [] → x ≡ operandOf c n kind field
-      → o′ ≡ joined o kind x → operandsOf c n o′ (drop (i + 1) (kindsOf k)) (drop (i + 1) (drop 1 (fieldsOf l))) ≡ g
+      → o′ ≡ withJoined o kind x → operandsOf c n o′ (drop (i + 1) (kindsOf k)) (drop (i + 1) (drop 1 (fieldsOf l))) ≡ g
   unfolding operandsOf
   operand-more {kind} {field} counted h ek ef ex eo =
       let a : drop i (kindsOf k) ≡ kind ∷ drop (i + 1) (kindsOf k) =

@@ -19,7 +19,7 @@ use Rattle.text.specs.Parts.{equal, fieldsOf, indexOf, startsWith}
 use Rattle.text.specs.Values.{accepted, byLetter, intOf, minusOf, noValue, plusOf, rangedValue, valueOf}
 use Rattle.plan_line.specs.declared.Coded.{Coded}
 use Rattle.plan_line.specs.Lines.{notRising, header, opKey, headerTold, headerLine, answered, countTold, countLine, opTold, opLine, startTold, startLine}
-use Rattle.plan_line.specs.Ops.{bare, clauseKind, clauseWords, codedOf, exact, joined, noCode, numeric, operandOf, operandsOf, opOf, opWords, lowest, highest}
+use Rattle.plan_line.specs.Ops.{bare, clauseKind, clauseWords, codedOf, exact, withJoined, noCode, numeric, operandOf, operandsOf, opOf, opWords, lowest, highest}
 use Rattle.plan_line.proofs.Ranges.{ranged-kept, count-kept, start-kept, worse-most}
 
 -- ---- values
@@ -85,7 +85,7 @@ module _ (c n : ℕ) where
   operands-told o [] ls h = h
   operands-told o (kind ∷ kinds) [] h = h
   operands-told o (kind ∷ kinds) (l ∷ ls) h =
-      operands-told (joined o kind (operandOf c n kind l)) kinds ls (worse-most (o .refusal) (operandOf c n kind l .refusal) outOfRange h (operand-told kind l) (omega arith))
+      operands-told (withJoined o kind (operandOf c n kind l)) kinds ls (worse-most (o .refusal) (operandOf c n kind l .refusal) outOfRange h (operand-told kind l) (omega arith))
 
   coded-told : (fields : List (List ℕ)) → codedOf c n fields .refusal ≤ outOfRange
   unfolding codedOf opOf

@@ -7,7 +7,7 @@
 --   lowest highest          the range of a number, by the operand's kind
 --   operandOf c n kind l    operand l of a kind
 --   withOperand o kind x    op o with the operand x of a kind
---   joined o kind x         what is read of an op, with one operand more
+--   withJoined o kind x         what is read of an op, with one operand more
 --   operandsOf c n o ks ls  what is read of an op, with the operands ls of the kinds ks
 --   bare k noCode           op number k without operands; what is read of a wrong word or operand count
 --   opOf c n k ls           op number k with the operands ls
@@ -85,13 +85,13 @@ withOperand o kind x = record {
   behaviour = cond (eqb kind 5) (record { 0 = x .number }) (o .behaviour);
 }
 
-abbrev pub joined : Coded → ℕ → Operand → Coded
-joined o kind x = record { refusal = worse (o .refusal) (x .refusal); op = withOperand (o .op) kind x }
+abbrev pub withJoined : Coded → ℕ → Operand → Coded
+withJoined o kind x = record { refusal = worse (o .refusal) (x .refusal); op = withOperand (o .op) kind x }
 
 unfoldable pub operandsOf : ℕ → ℕ → Coded → List ℕ → List (List ℕ) → Coded
 operandsOf c n o [] ls = o
 operandsOf c n o (kind ∷ kinds) [] = o
-operandsOf c n o (kind ∷ kinds) (l ∷ ls) = operandsOf c n (joined o kind (operandOf c n kind l)) kinds ls
+operandsOf c n o (kind ∷ kinds) (l ∷ ls) = operandsOf c n (withJoined o kind (operandOf c n kind l)) kinds ls
 
 -- op number k without operands
 abbrev pub bare : ℕ → Coded

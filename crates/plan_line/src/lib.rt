@@ -11,7 +11,7 @@ ghost use Prim.Native.Nat.{_<_};
 ghost use lib.ListN.{length, getD, drop};
 ghost use Rattle.node.specs.Ops.{operandCounts, kindsOf};
 ghost use Rattle.text.specs.Parts.{fieldsOf};
-ghost use Rattle.plan_line.specs.Ops.{worse, exact, clauseKind, lowest, highest, operandOf, withValue, withOperand, joined, operandsOf, bare, noCode, codedOf};
+ghost use Rattle.plan_line.specs.Ops.{worse, exact, clauseKind, lowest, highest, operandOf, withValue, withOperand, withJoined, operandsOf, bare, noCode, codedOf};
 ghost use Rattle.plan_line.specs.Lines.{headerTold, countTold, opTold, startOf, noStart, risen, startTold};
 
 // Start numbers that do not rise.
@@ -155,7 +155,7 @@ fn operands(rest: &[u8], number: u8, count: u8, len: u8) -> Coded
 
 // One operand more.
 fn with_joined(coded: Coded, kind: u8, x: Operand) -> Coded
-    ensures { λ r. ⌜ r ≡ joined coded kind x ⌝ }
+    ensures { λ r. ⌜ r ≡ withJoined coded kind x ⌝ }
 {
     let op = coded.op;
     Coded {

@@ -53,5 +53,5 @@ abbrev pub notSound : ℕ
 notSound = 31
 
 -- schedule above 4,096 steps
-abbrev pub tooLong : ℕ
-tooLong = 32
+abbrev pub scheduleTooLong : ℕ
+scheduleTooLong = 32

@@ -23,7 +23,7 @@ use Rattle.node.specs.declared.Step.{Step}
 use Rattle.node.specs.Mailboxes.{emptied}
 use Rattle.node.specs.Nodes.{noProcess, noMailbox, noRow, pair}
 use Rattle.node.specs.Rows.{noSignal, signals, pushed, popped}
-use Rattle.rules.specs.Answers.{Answer, refused, done, need, goOn, badNumber, ownerUnborn, noneInFlight, pairFull, notUnborn, notSound, tooLong}
+use Rattle.rules.specs.Answers.{Answer, refused, done, need, goOn, badNumber, ownerUnborn, noneInFlight, pairFull, notUnborn, notSound, scheduleTooLong}
 use Rattle.rules.specs.Arrive.{arrives}
 use Rattle.rules.specs.Effects.{State, Effect, Sending, Birth}
 use Rattle.rules.specs.Nodes.{code, process, mailbox, row, sound}
@@ -152,5 +152,5 @@ played n (a ∷ l) = playsOn n (step n a) (λ m. played m l)
 unfoldable pub play : Node → List Action → Played
 play n l =
     cond (not (sound n)) (record { accepted = 0; refusal = notSound; node = n })
-    (cond (ltb 4096 (length l)) (record { accepted = 0; refusal = tooLong; node = n })
+    (cond (ltb 4096 (length l)) (record { accepted = 0; refusal = scheduleTooLong; node = n })
     (played n l))

@@ -14,7 +14,7 @@ use borrow.Author.Tests.{lt-ltb, le-ltb}
 use lib.ListN.{length, take, drop, set, replicate, length-append}
 use Rattle.node.specs.Lists.{firsts}
 use Rattle.node.proofs.Lists.{firsts-length}
-use Rattle.rules.specs.Answers.{Answer, refused, done, tooLong}
+use Rattle.rules.specs.Answers.{Answer, refused, done, scheduleTooLong}
 use Rattle.text.specs.declared.Ranged.{Ranged}
 use Rattle.text.specs.Parts.{Lines, lineThen, linesOf, placeFrom, fieldsOf, startsWith}
 use Rattle.text.proofs.Parts.{drop-at, tail-part, lines-at, lines-rest, lines-none, starts-long}
@@ -130,7 +130,7 @@ module _ {text steps : List ℕ} {count at : ℕ} (so : So text steps count at) 
     unfolding readLines
     all-steps = behind _ (lines-none text end)
 
-    pub so-over : {r : Schedule} → 4096 < count → r ≡ refusedText tooLong 0 → r ≡ scheduleOf text
+    pub so-over : {r : Schedule} → 4096 < count → r ≡ refusedText scheduleTooLong 0 → r ≡ scheduleOf text
     unfolding scheduleOf ofLines
     so-over m p =
         let n : length (map done (so .earlier) ++ []) ≡ count = steps-length (so .earlier) ∙ so .counted in

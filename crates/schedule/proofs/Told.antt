@@ -10,19 +10,19 @@ use borrow.Author.Tests.{ltb-false}
 use lib.Dec.{ltb}
 use lib.ListN.{length, length-append, length-map, length-replicate}
 use Rattle.node.proofs.Lists.{firsts-length}
-use Rattle.rules.specs.Answers.{Answer, refused, done, tooLong}
+use Rattle.rules.specs.Answers.{Answer, refused, done, scheduleTooLong}
 use Rattle.text.proofs.Parts.{lines-few}
 use Rattle.text.specs.Parts.{linesOf}
 use Rattle.schedule.specs.declared.Schedule.{Schedule}
 use Rattle.schedule.specs.Reading.{malformedLine, stepOf, unended, readLines, firstMalformed, stepsOf, refusedText, acceptedSteps, ofLines, scheduleOf}
 
 pub record Low (s : Schedule) : Type 0 where
-  pub number : s .number ≤ tooLong
+  pub number : s .number ≤ scheduleTooLong
   pub line : s .line ≤ 61441
   pub count : s .count ≤ 4096
   pub room : length (s .steps) ≡ 4096
 
-refused-low : (k line : ℕ) → k ≤ tooLong → line ≤ 61441 → Low (refusedText k line)
+refused-low : (k line : ℕ) → k ≤ scheduleTooLong → line ≤ 61441 → Low (refusedText k line)
 unfolding refusedText
 refused-low k line h g = record { number = h; line = g; count = omega arith; room = length-replicate {A = ℕ} 4096 0 }
 
@@ -46,9 +46,9 @@ lines-low : (ls : List (Answer ℕ)) → length ls ≤ 61441 → Low (ofLines ls
 unfolding ofLines
 lines-low ls few = go (ltb 0 (firstMalformed 1 ls)) (ltb 4096 (length ls)) refl
   where
-    go : (b c : Bool) → ltb 4096 (length ls) ≡ c → Low (cond b (refusedText malformedLine (firstMalformed 1 ls)) (cond c (refusedText tooLong 0) (acceptedSteps (stepsOf ls))))
+    go : (b c : Bool) → ltb 4096 (length ls) ≡ c → Low (cond b (refusedText malformedLine (firstMalformed 1 ls)) (cond c (refusedText scheduleTooLong 0) (acceptedSteps (stepsOf ls))))
     go true c h = refused-low malformedLine (firstMalformed 1 ls) (omega arith) (omega (arith, first-most 0 ls))
-    go false true h = refused-low tooLong 0 (omega arith) (omega arith)
+    go false true h = refused-low scheduleTooLong 0 (omega arith) (omega arith)
     go false false h = accepted-low (stepsOf ls) (omega (arith, steps-few ls, ltb-false 4096 (length ls) h))
 
 unended-one : (rest : List ℕ) → length (unended rest) ≤ 1
@@ -65,6 +65,6 @@ pub read-told : (text : List ℕ) → Low (scheduleOf text)
 unfolding scheduleOf
 read-told text = go (ltb 61440 (length text)) refl
   where
-    go : (b : Bool) → ltb 61440 (length text) ≡ b → Low (cond b (refusedText tooLong 0) (ofLines (readLines (linesOf text))))
-    go true h = refused-low tooLong 0 (omega arith) (omega arith)
+    go : (b : Bool) → ltb 61440 (length text) ≡ b → Low (cond b (refusedText scheduleTooLong 0) (ofLines (readLines (linesOf text))))
+    go true h = refused-low scheduleTooLong 0 (omega arith) (omega arith)
     go false h = lines-low (readLines (linesOf text)) (omega (arith, lines-most text, ltb-false 61440 (length text) h))

@@ -20,7 +20,7 @@ use lib.Dec.{eqb, ltb}
 use lib.ListN.{length, getD, drop, replicate}
 use Rattle.node.specs.Lists.{firsts}
 use Rattle.node.specs.Texts.{bytes}
-use Rattle.rules.specs.Answers.{Answer, refused, done, need, tooLong}
+use Rattle.rules.specs.Answers.{Answer, refused, done, need, scheduleTooLong}
 use Rattle.text.specs.declared.Ranged.{Ranged}
 use Rattle.text.specs.Numbers.{numberOf, rangedOf}
 use Rattle.text.specs.Parts.{Lines, linesOf, fieldsOf, startsWith}
@@ -92,9 +92,9 @@ acceptedSteps steps = record { number = 0; line = 0; count = length steps; steps
 unfoldable pub ofLines : List (Answer ℕ) → Schedule
 ofLines ls =
     cond (ltb 0 (firstMalformed 1 ls)) (refusedText malformedLine (firstMalformed 1 ls))
-    (cond (ltb 4096 (length ls)) (refusedText tooLong 0)
+    (cond (ltb 4096 (length ls)) (refusedText scheduleTooLong 0)
     (acceptedSteps (stepsOf ls)))
 
 -- "32 with line 0 for text above 61,440 bytes"
 unfoldable pub scheduleOf : List ℕ → Schedule
-scheduleOf text = cond (ltb 61440 (length text)) (refusedText tooLong 0) (ofLines (readLines (linesOf text)))
+scheduleOf text = cond (ltb 61440 (length text)) (refusedText scheduleTooLong 0) (ofLines (readLines (linesOf text)))

@@ -6,12 +6,12 @@ use mathlib.Core.Bool.{cond, not}
 use Prim.Native.Nat.{ℕ, _+_}
 use lib.Dec.{eqb, ltb}
 use Rattle.node.specs.declared.Node.{Node}
-use Rattle.rules.specs.Answers.{Answer, refused, done, notSound, tooLong}
+use Rattle.rules.specs.Answers.{Answer, refused, done, notSound, scheduleTooLong}
 use Rattle.rules.specs.Nodes.{sound}
 use Rattle.rules.specs.Steps.{Action, Played, step}
 
 unfoldable pub begins : Node → ℕ → Played
-begins n count = record { accepted = 0; refusal = cond (not (sound n)) notSound (cond (ltb 4096 count) tooLong 0); node = n }
+begins n count = record { accepted = 0; refusal = cond (not (sound n)) notSound (cond (ltb 4096 count) scheduleTooLong 0); node = n }
 
 abbrev pub withAnswer : Played → Answer Node → Played
 withAnswer r (refused k) = record { accepted = r .accepted; refusal = k; node = r .node }

@@ -9,7 +9,7 @@ use Rattle.node.specs.Texts.{bytes}
 use Rattle.rules.specs.Answers.{done}
 use Rattle.text.specs.Numbers.{malformed, outOfRange, isDigit, unsignedForm, negative, unsigned, numberForm, decimal, numberValue, ceiling, numberOf, rangedOf}
 use Rattle.text.specs.Parts.{split, inFront, lineThen, lastApart, linesOf, fieldsOf, equal, startsWith}
-use Rattle.text.specs.Values.{noValue, accepted, plusOf, minusOf, intOf, byLetter, valueOf, numberText, valueText}
+use Rattle.text.specs.Values.{noValue, readAs, plusOf, minusOf, intOf, byLetter, valueOf, numberText, valueText}
 use Rattle.text.specs.Writing.{digitsIn, digits, intText}
 
 -- the empty text, 01, +1, -0 and - are no numbers; 0, 10 and -7 are
@@ -38,7 +38,7 @@ unfolding rangedOf numberOf numberValue decimal numberForm unsignedForm unsigned
 below = refl
 
 -- the least integer is a value
-least : valueOf (bytes "i-2147483648") ≡ accepted (Int (negsuc 2147483647))
+least : valueOf (bytes "i-2147483648") ≡ readAs (Int (negsuc 2147483647))
 unfolding valueOf byLetter intOf plusOf minusOf rangedOf numberOf numberValue decimal numberForm unsignedForm unsigned negative isDigit equal startsWith
 least = refl
 
@@ -48,7 +48,7 @@ unfolding valueOf byLetter intOf plusOf minusOf rangedOf numberOf numberValue de
 past = refl
 
 -- a255 is a value
-atom : valueOf (bytes "a255") ≡ accepted (Atom 255)
+atom : valueOf (bytes "a255") ≡ readAs (Atom 255)
 unfolding valueOf byLetter intOf plusOf minusOf rangedOf numberOf numberValue decimal numberForm unsignedForm unsigned negative isDigit equal startsWith
 atom = refl
 

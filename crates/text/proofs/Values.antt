@@ -14,7 +14,7 @@ use Rattle.node.specs.declared.Value.the-variants.{Int}
 use Rattle.node.specs.declared.Value.{Value}
 use Rattle.text.specs.declared.Parsed.{Parsed}
 use Rattle.text.specs.Numbers.{malformed}
-use Rattle.text.specs.Values.{noValue, accepted, plusOf, minusOf, byLetter, valueOf, letterOf, numberText, valueText}
+use Rattle.text.specs.Values.{noValue, readAs, plusOf, minusOf, byLetter, valueOf, letterOf, numberText, valueText}
 use Rattle.text.specs.Writing.{Wrote}
 use Rattle.text.proofs.Parts.{tail-part}
 use Rattle.text.proofs.Writing.{wrote-then}
@@ -35,13 +35,13 @@ module _ (m : ℕ) (h : m ≤ 2147483648) where
   pub below-casts : SFits w32 (toZ w64 (ofZ w64 (pos 0 -ℤ toZ w64 m)))
   below-casts = subst (SFits w32) (sym (toZ-ofZ below-fits ∙ below)) (record { sfits = mag-below m h })
 
-  pub minus-near : accepted (Int (toZ w32 (ofZ w32 (toZ w64 (ofZ w64 (pos 0 -ℤ toZ w64 m)))))) ≡ minusOf m
+  pub minus-near : readAs (Int (toZ w32 (ofZ w32 (toZ w64 (ofZ w64 (pos 0 -ℤ toZ w64 m)))))) ≡ minusOf m
   unfolding minusOf
-  minus-near = ap (λ (z : ℤ). accepted (Int z)) (toZ-ofZ below-casts ∙ toZ-ofZ below-fits ∙ below) ∙ rw (le-leb _ _ h)
+  minus-near = ap (λ (z : ℤ). readAs (Int z)) (toZ-ofZ below-casts ∙ toZ-ofZ below-fits ∙ below) ∙ rw (le-leb _ _ h)
 
-pub plus-near : (m : ℕ) → m ≤ 2147483647 → accepted (Int (toZ w32 m)) ≡ plusOf m
+pub plus-near : (m : ℕ) → m ≤ 2147483647 → readAs (Int (toZ w32 m)) ≡ plusOf m
 unfolding plusOf
-plus-near m h = ap (λ (z : ℤ). accepted (Int z)) (toZ-pos w32 {n = m} (omega arith)) ∙ rw (le-leb _ _ h)
+plus-near m h = ap (λ (z : ℤ). readAs (Int z)) (toZ-pos w32 {n = m} (omega arith)) ∙ rw (le-leb _ _ h)
 
 -- ---- the letter
 pub value-none : (s : List ℕ) {r : Parsed} → length s ≡ 0 → r ≡ noValue malformed → r ≡ valueOf s

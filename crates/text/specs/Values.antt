@@ -1,6 +1,6 @@
 -- Values as text (document 01: "an integer `i` (-2147483648 to 2147483647), an atom `a` (0 to 255) or a process number `p` (1 to 16)").
 --   noValue refusal      what is read where it is refused
---   accepted v           what is read where it is v
+--   readAs v           what is read where it is v
 --   plusOf n minusOf n   the integers n and -n, where they are within their limits
 --   intOf n              the integer that the number n is, as it was read
 --   rangedValue make n   the value that `make` makes of a number with a range
@@ -27,14 +27,14 @@ use Rattle.text.specs.Writing.{digits, intText}
 abbrev pub noValue : ℕ → Parsed
 noValue refusal = record { refusal = refusal; value = intZero }
 
-abbrev pub accepted : Value → Parsed
-accepted v = record { refusal = 0; value = v }
+abbrev pub readAs : Value → Parsed
+readAs v = record { refusal = 0; value = v }
 
 unfoldable pub plusOf : ℕ → Parsed
-plusOf n = cond (leb n 2147483647) (accepted (Int (pos n))) (noValue outOfRange)
+plusOf n = cond (leb n 2147483647) (readAs (Int (pos n))) (noValue outOfRange)
 
 unfoldable pub minusOf : ℕ → Parsed
-minusOf n = cond (leb n 2147483648) (accepted (Int (negℤ (pos n)))) (noValue outOfRange)
+minusOf n = cond (leb n 2147483648) (readAs (Int (negℤ (pos n)))) (noValue outOfRange)
 
 unfoldable pub intOf : Answer Signed → Parsed
 intOf (refused k) = noValue k
