@@ -26,7 +26,7 @@ use Rattle.rules.proofs.All.{both, parts, allOf-at, rising-at}
 use Rattle.text.specs.declared.Parsed.{Parsed}
 use Rattle.text.specs.Numbers.{malformed, outOfRange, Signed, numberOf, rangedOf}
 use Rattle.text.specs.Parts.{fieldsOf, indexOf, startsWith}
-use Rattle.text.specs.Values.{accepted, byLetter, intOf, minusOf, noValue, plusOf, rangedValue, valueOf}
+use Rattle.text.specs.Values.{readAs, byLetter, intOf, minusOf, noValue, plusOf, rangedValue, valueOf}
 use Rattle.plan_line.specs.declared.Coded.{Coded}
 use Rattle.plan_line.specs.declared.Operand.{Operand}
 use Rattle.plan_line.specs.Lines.{opKey, opTold}
@@ -47,7 +47,7 @@ plus-kept : (n : ℕ) → ValueKept (plusOf n)
 unfolding plusOf fitsInt
 plus-kept n = go (leb n 2147483647) refl
   where
-    go : (t : Bool) → leb n 2147483647 ≡ t → ValueKept (cond t (accepted (Int (pos n))) (noValue outOfRange))
+    go : (t : Bool) → leb n 2147483647 ≡ t → ValueKept (cond t (readAs (Int (pos n))) (noValue outOfRange))
     go true e h = e
     go false e h = refl
 
@@ -56,7 +56,7 @@ unfolding minusOf fitsInt
 minus-kept zero = λ e. refl
 minus-kept (suc m) = go (leb (suc m) 2147483648) refl
   where
-    go : (t : Bool) → leb (suc m) 2147483648 ≡ t → ValueKept (cond t (accepted (Int (negℤ (pos (suc m))))) (noValue outOfRange))
+    go : (t : Bool) → leb (suc m) 2147483648 ≡ t → ValueKept (cond t (readAs (Int (negℤ (pos (suc m))))) (noValue outOfRange))
     go true e h = let l = leb-true (suc m) 2147483648 e in both (le-leb m 2147483647 (omega arith)) refl
     go false e h = refl
 

@@ -16,7 +16,7 @@ use Rattle.rules.proofs.Told.{Told}
 use Rattle.rules.specs.Answers.{done, need}
 use Rattle.text.specs.Numbers.{malformed, outOfRange, negative, numberForm, numberValue, ceiling, numberOf, rangedOf}
 use Rattle.text.specs.Parts.{equal, fieldsOf, indexOf, startsWith}
-use Rattle.text.specs.Values.{accepted, byLetter, intOf, minusOf, noValue, plusOf, rangedValue, valueOf}
+use Rattle.text.specs.Values.{readAs, byLetter, intOf, minusOf, noValue, plusOf, rangedValue, valueOf}
 use Rattle.plan_line.specs.declared.Coded.{Coded}
 use Rattle.plan_line.specs.Lines.{notRising, header, opKey, headerTold, headerLine, answered, countTold, countLine, opTold, opLine, startTold, startLine}
 use Rattle.plan_line.specs.Ops.{bare, clauseKind, clauseWords, codedOf, exact, withJoined, noCode, numeric, operandOf, operandsOf, opOf, opWords, lowest, highest}
@@ -28,7 +28,7 @@ module _ (n : ℕ) where
   unfolding plusOf
   plus-told = go (leb n 2147483647)
     where
-      go : (t : Bool) → cond t (accepted (Int (pos n))) (noValue outOfRange) .refusal ≤ outOfRange
+      go : (t : Bool) → cond t (readAs (Int (pos n))) (noValue outOfRange) .refusal ≤ outOfRange
       go true = omega arith
       go false = omega arith
 
@@ -36,7 +36,7 @@ module _ (n : ℕ) where
   unfolding minusOf
   minus-told = go (leb n 2147483648)
     where
-      go : (t : Bool) → cond t (accepted (Int (negℤ (pos n)))) (noValue outOfRange) .refusal ≤ outOfRange
+      go : (t : Bool) → cond t (readAs (Int (negℤ (pos n)))) (noValue outOfRange) .refusal ≤ outOfRange
       go true = omega arith
       go false = omega arith
 
