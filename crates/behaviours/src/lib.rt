@@ -8,8 +8,11 @@ ghost use Rattle.rules.specs.Behaviours.{codeSound, dueNext, inRange, instructi
 ghost use Rattle.rules.specs.Values.{isNumber, valueSound};
 ghost use Rattle.behaviours.specs.Codes.{codesIn, hasTarget, placedBy};
 use node::BehaviourNumber;
+use node::CLAUSE;
+use node::EXACT;
 use node::Op;
 use node::ProcessNumber;
+use node::RECV;
 use node::Value;
 
 // All behaviours, of which there are `count`, in one loop over their ops: a call that takes `ops` copies 4 KB.
@@ -33,7 +36,7 @@ pub fn behaviours_sound(count: u8, lens: [u8; 8], ops: [Op; 256]) -> bool
         }
         let to = landing(op, len);
         if to < len {
-            if ops[32 * b + (to as usize)].number == 11 {
+            if ops[32 * b + (to as usize)].number == CLAUSE {
                 return false;
             }
         }
@@ -58,7 +61,7 @@ pub fn op_sound(op: Op, count: u8, len: u8, due: u8) -> bool
     if !in_range(op, count, len) {
         return false;
     }
-    if op.number == 11 {
+    if op.number == CLAUSE {
         return 0 < due;
     }
     due == 0
@@ -69,10 +72,10 @@ pub fn due_next(due: u8, op: Op) -> u8
     ensures { λ r. ⌜ r ≡ dueNext due (instruction op) ⌝ }
 {
     let number = op.number;
-    if number == 10 {
+    if number == RECV {
         return op.small;
     }
-    if number == 11 {
+    if number == CLAUSE {
         if 0 < due {
             return due - 1;
         }
@@ -137,6 +140,47 @@ pub fn in_range(op: Op, count: u8, len: u8) -> bool
     }
 }
 
+// The kind of a clause; kind 5 has one exact value.
+pub fn clause_kind_sound(kind: u8, v: Value) -> bool
+    ensures { λ r. ⌜ r ≡ (leb kind 5 && valueSound (cond (eqb kind 5) v intZero)) ⌝ }
+{
+    if 5 < kind {
+        return false;
+    }
+    if kind == EXACT {
+        return value_sound(v);
+    }
+    true
+}
+
+pub fn within(n: u8, least: u8, most: u8) -> bool
+    ensures { λ r. ⌜ r ≡ (leb least n && leb n most) ⌝ }
+{
+    if n < least {
+        return false;
+    }
+    n <= most
+}
+
+pub fn is_number(i: u8) -> bool
+    ensures { λ r. ⌜ r ≡ isNumber i ⌝ }
+{
+    within(i, 1, 16)
+}
+
+pub fn value_sound(v: Value) -> bool
+    ensures { λ r. ⌜ r ≡ valueSound v ⌝ }
+{
+    match v {
+        Value::Int(_i) => true,
+        Value::Atom(_a) => true,
+        Value::Pid(j) => {
+            let i = j.0;
+            is_number(i)
+        }
+    }
+}
+
 fn registers(r: u8, s: u8) -> bool
     ensures { λ x. ⌜ x ≡ (leb r 3 && leb s 3) ⌝ }
 {
@@ -175,45 +219,4 @@ fn register_and_numbers(r: u8, b: BehaviourNumber, q: ProcessNumber, count: u8) 
         return false;
     }
     is_number(q.0)
-}
-
-// The kind of a clause; kind 5 has one exact value.
-pub fn clause_kind_sound(kind: u8, v: Value) -> bool
-    ensures { λ r. ⌜ r ≡ (leb kind 5 && valueSound (cond (eqb kind 5) v intZero)) ⌝ }
-{
-    if 5 < kind {
-        return false;
-    }
-    if kind == 5 {
-        return value_sound(v);
-    }
-    true
-}
-
-pub fn within(n: u8, least: u8, most: u8) -> bool
-    ensures { λ r. ⌜ r ≡ (leb least n && leb n most) ⌝ }
-{
-    if n < least {
-        return false;
-    }
-    n <= most
-}
-
-pub fn is_number(i: u8) -> bool
-    ensures { λ r. ⌜ r ≡ isNumber i ⌝ }
-{
-    within(i, 1, 16)
-}
-
-pub fn value_sound(v: Value) -> bool
-    ensures { λ r. ⌜ r ≡ valueSound v ⌝ }
-{
-    match v {
-        Value::Int(_i) => true,
-        Value::Atom(_a) => true,
-        Value::Pid(j) => {
-            let i = j.0;
-            is_number(i)
-        }
-    }
 }

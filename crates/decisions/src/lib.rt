@@ -15,7 +15,10 @@ ghost use Rattle.rules.specs.Values.{sameValue};
 ghost use Rattle.decisions.specs.Answers.{refusesEffect, becomesEffect, searchesEffect, sendsEffect, says, codeAt};
 ghost use Rattle.decisions.specs.Answers.{ranOp, ran, arrived, sumOf, integersOf};
 use node::BehaviourNumber;
+use node::MAILBOX_FULL;
 use node::Message;
+use node::OWNER_GONE;
+use node::OWNER_UNBORN;
 use node::Op;
 use node::Process;
 use node::ProcessNumber;
@@ -39,6 +42,57 @@ pub struct Effect {
     pub spawns: bool,
     pub number: ProcessNumber,
     pub behaviour: BehaviourNumber,
+}
+
+// A run of process i, whose code has len ops and which is at op.
+pub fn run(i: ProcessNumber, p: Process, len: u8, op: Op) -> Effect
+    ensures { λ e. ⌜ e ≡ ran i p len op ⌝ }
+{
+    let stage = p.stage;
+    match stage {
+        Stage::Unborn => Effect::refuses(p, OWNER_UNBORN),
+        Stage::Live => run_live(i, p, len, op),
+        Stage::Closing => close(p),
+        Stage::Gone => Effect::refuses(p, OWNER_GONE),
+    }
+}
+
+// The op decides.
+pub fn run_op(i: ProcessNumber, p: Process, op: Op) -> Effect
+    ensures { λ e. ⌜ e ≡ ranOp i p op ⌝ }
+{
+    let number = op.number;
+    match number {
+        0 => run_set(p, op),
+        1 => run_copy(p, op),
+        2 => run_self(i, p, op),
+        3 => run_add(p, op),
+        4 => run_send(p, op),
+        5 => run_exit(p, op),
+        6 => run_link(i, p, op),
+        7 => run_unlink(i, p, op),
+        8 => run_trap(p, op),
+        9 => run_spawn(p, op),
+        10 => run_recv(p),
+        11 => run_clause(p),
+        12 => run_jump(p, op),
+        13 => run_same(p, op),
+        14 => run_less(p, op),
+        _ => run_stop(p, op),
+    }
+}
+
+// The arrival at process i, whose mailbox has count messages, of signal x from j.
+pub fn arrive(i: ProcessNumber, j: ProcessNumber, p: Process, count: u8, x: Signal) -> Effect
+    ensures { λ e. ⌜ e ≡ arrived i j p count x ⌝ }
+{
+    let stage = p.stage;
+    match stage {
+        Stage::Unborn => Effect::refuses(p, OWNER_UNBORN), // the signal waits in its row
+        Stage::Live => take(i, j, p, count, x),
+        Stage::Closing => Effect::becomes(p),
+        Stage::Gone => Effect::becomes(p),
+    }
 }
 
 impl Effect {
@@ -345,31 +399,6 @@ fn run_stop(p: Process, op: Op) -> Effect
     Effect::becomes(p.ended(v))
 }
 
-// The op decides.
-pub fn run_op(i: ProcessNumber, p: Process, op: Op) -> Effect
-    ensures { λ e. ⌜ e ≡ ranOp i p op ⌝ }
-{
-    let number = op.number;
-    match number {
-        0 => run_set(p, op),
-        1 => run_copy(p, op),
-        2 => run_self(i, p, op),
-        3 => run_add(p, op),
-        4 => run_send(p, op),
-        5 => run_exit(p, op),
-        6 => run_link(i, p, op),
-        7 => run_unlink(i, p, op),
-        8 => run_trap(p, op),
-        9 => run_spawn(p, op),
-        10 => run_recv(p),
-        11 => run_clause(p),
-        12 => run_jump(p, op),
-        13 => run_same(p, op),
-        14 => run_less(p, op),
-        _ => run_stop(p, op),
-    }
-}
-
 // ---- a run
 
 // Tells the lowest link and drops it; without links the process is gone.
@@ -395,19 +424,6 @@ fn run_live(i: ProcessNumber, p: Process, len: u8, op: Op) -> Effect
     run_op(i, p, op)
 }
 
-// A run of process i, whose code has len ops and which is at op.
-pub fn run(i: ProcessNumber, p: Process, len: u8, op: Op) -> Effect
-    ensures { λ e. ⌜ e ≡ ran i p len op ⌝ }
-{
-    let stage = p.stage;
-    match stage {
-        Stage::Unborn => Effect::refuses(p, 21),
-        Stage::Live => run_live(i, p, len, op),
-        Stage::Closing => close(p),
-        Stage::Gone => Effect::refuses(p, 22),
-    }
-}
-
 // ---- an arrival
 
 fn both(a: bool, b: bool) -> bool
@@ -424,7 +440,7 @@ fn join(p: Process, count: u8, x: Message) -> Effect
     ensures { λ e. ⌜ e ≡ says p count (λ st. joinsWith st p x) ⌝ }
 {
     if 16 <= count {
-        return Effect::refuses(p, 24);
+        return Effect::refuses(p, MAILBOX_FULL);
     }
     Effect {
         refusal: 0,
@@ -498,18 +514,5 @@ fn take(i: ProcessNumber, j: ProcessNumber, p: Process, count: u8, x: Signal) ->
         Signal::Exit(v, b) => exit(i, j, p, count, v, b),
         Signal::Link => Effect::becomes(p.linked(j)),
         Signal::Unlink => Effect::becomes(p.unlinked(j)),
-    }
-}
-
-// The arrival at process i, whose mailbox has count messages, of signal x from j.
-pub fn arrive(i: ProcessNumber, j: ProcessNumber, p: Process, count: u8, x: Signal) -> Effect
-    ensures { λ e. ⌜ e ≡ arrived i j p count x ⌝ }
-{
-    let stage = p.stage;
-    match stage {
-        Stage::Unborn => Effect::refuses(p, 21), // the signal waits in its row
-        Stage::Live => take(i, j, p, count, x),
-        Stage::Closing => Effect::becomes(p),
-        Stage::Gone => Effect::becomes(p),
     }
 }

@@ -14,9 +14,16 @@ use actions::is_unborn;
 use actions::op_index;
 use actions::process_index;
 use actions::row_index;
+use node::BAD_NUMBER;
+use node::NONE_IN_FLIGHT;
+use node::NOT_SOUND;
+use node::NOT_UNBORN;
 use node::Node;
+use node::OWNER_UNBORN;
+use node::PAIR_FULL;
 use node::Process;
 use node::ProcessNumber;
+use node::SCHEDULE_TOO_LONG;
 use node::Step;
 use node::Value;
 
@@ -57,7 +64,7 @@ pub fn step(n: Node, s: Step) -> Stepped
     }
     Stepped {
         node: n,
-        refusal: 31,
+        refusal: NOT_SOUND,
     }
 }
 
@@ -67,11 +74,11 @@ pub fn play(n: Node, numbers: &[u32]) -> Played
 {
     if soundness::sound(n) {
         if LONGEST < numbers.len() {
-            return ended(0, 32, n);
+            return ended(0, SCHEDULE_TOO_LONG, n);
         }
         return play_core(n, numbers);
     }
-    ended(0, 31, n)
+    ended(0, NOT_SOUND, n)
 }
 
 // A step that the node would accept: by owner, its run, then its arrivals by sender.
@@ -146,19 +153,19 @@ fn play_core(n: Node, numbers: &[u32]) -> Played
         let s = decode(numbers[t]);
         i += 1;
         if s.bad {
-            return ended(t, 20, node);
+            return ended(t, BAD_NUMBER, node);
         }
         let k = s.at;
         let o = s.owner;
         let p = node.processes[k];
         if is_unborn(p) {
-            return ended(t, 21, node);
+            return ended(t, OWNER_UNBORN, node);
         }
         if s.arrives {
             let r = s.row;
             let row = node.flight[r];
             if row.count == 0 {
-                return ended(t, 23, node);
+                return ended(t, NONE_IN_FLIGHT, node);
             }
             let j = s.from;
             let signal = row.oldest();
@@ -223,7 +230,7 @@ fn play_core(n: Node, numbers: &[u32]) -> Played
             let r = row_index(o, to);
             let row = node.flight[r];
             if 4 <= row.count {
-                return ended(t, 26, node);
+                return ended(t, PAIR_FULL, node);
             }
             let signal = e.signal;
             let next = row.pushed(signal);
@@ -247,7 +254,7 @@ fn play_core(n: Node, numbers: &[u32]) -> Played
                 node.mail[at] = none;
                 continue;
             }
-            return ended(t, 27, node);
+            return ended(t, NOT_UNBORN, node);
         }
         let moved = e.process;
         node.processes[k] = moved;

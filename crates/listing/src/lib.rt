@@ -2,7 +2,9 @@
 // Run over an empty slice its writers count, so a listing is counted before the buffer is touched.
 use listing_lines::put_pair;
 use listing_lines::put_process;
+use node::NOT_SOUND;
 use node::Node;
+use node::OUTPUT_SHORT;
 use node::ProcessNumber;
 ghost use mathlib.Core.Path.{_≡_};
 ghost use Rattle.rules.specs.Nodes.{view};
@@ -10,12 +12,6 @@ ghost use Rattle.text.specs.Writing.{Wrote};
 ghost use Rattle.listing_lines.specs.Lines.{eachFrom, standingText};
 ghost use Rattle.listing.specs.Answers.{told, shown, listTold, listShown};
 ghost use Rattle.listing.specs.Listing.{rowsText, listingOf};
-
-// The caller's buffer is shorter than the listing.
-pub const OUTPUT_SHORT: u8 = 30;
-
-// The caller's node is not sound.
-pub const NOT_SOUND: u8 = 31;
 
 // The refusal, 30 or 31, or 0 and the listing's length. With a refusal the length is 0.
 pub struct Listed {

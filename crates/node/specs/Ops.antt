@@ -5,6 +5,8 @@
 --   operandKind n k   what operand k of op n is
 --   kindsOf n         what the operands of op n are, in their order
 --   stopOp            the op `stop,0`
+--   opCount recvOp clauseOp   how many ops there are, and the numbers of recv and clause
+--   exactKind         the clause kind of one exact value
 use mathlib.Core.Bool.{cond}
 use mathlib.Core.List.{List, [], _∷_}
 use Prim.Native.Nat.{ℕ, _+_, _*_}
@@ -38,6 +40,18 @@ operandKinds =
     ∷ 1 ∷ 2 ∷ 4 ∷ 0  -- less,r,s,t
     ∷ 1 ∷ 0 ∷ 0 ∷ 0  -- stop,r
     ∷ []
+
+abbrev pub opCount : ℕ
+opCount = 16
+
+abbrev pub recvOp : ℕ
+recvOp = 10
+
+abbrev pub clauseOp : ℕ
+clauseOp = 11
+
+abbrev pub exactKind : ℕ
+exactKind = 5
 
 unfoldable pub operandKind : ℕ → ℕ → ℕ
 operandKind n k = cond (ltb k 4) (getD operandKinds (n * 4 + k) 0) 0

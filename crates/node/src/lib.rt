@@ -129,6 +129,40 @@ pub struct Step {
     pub from: ProcessNumber,
 }
 
+// What the schedule writer is told of a step that is refused (document 01, "The three hands").
+pub const BAD_NUMBER: u8 = 20;
+
+pub const OWNER_UNBORN: u8 = 21;
+
+pub const OWNER_GONE: u8 = 22;
+
+pub const NONE_IN_FLIGHT: u8 = 23;
+
+pub const MAILBOX_FULL: u8 = 24;
+
+pub const NO_FIT: u8 = 25;
+
+pub const PAIR_FULL: u8 = 26;
+
+pub const NOT_UNBORN: u8 = 27;
+
+// What the caller is told: the output is shorter than what is to be written, the node is not sound, the schedule has too many steps.
+pub const OUTPUT_SHORT: u8 = 30;
+
+pub const NOT_SOUND: u8 = 31;
+
+pub const SCHEDULE_TOO_LONG: u8 = 32;
+
+// The number of ops, and the numbers of those that others look for.
+pub const OPS: u8 = 16;
+
+pub const RECV: u8 = 10;
+
+pub const CLAUSE: u8 = 11;
+
+// The clause kind of one exact value.
+pub const EXACT: u8 = 5;
+
 // How many operands each op has, by its number.
 const OPERANDS: [u8; 16] = [2, 2, 1, 2, 2, 2, 1, 1, 1, 3, 1, 4, 1, 3, 3, 1];
 
@@ -204,7 +238,7 @@ const OPERAND_KINDS: [u8; 64] = [
 pub fn operand_count(op: u8) -> u8
     ensures { λ r. ⌜ r ≡ getD operandCounts op 0 ⌝ }
 {
-    if op < 16 {
+    if op < OPS {
         let k = op as usize;
         return OPERANDS[k];
     }
@@ -218,7 +252,7 @@ pub fn operand_kind(op: u8, k: u8) -> u8
     if 4 <= k {
         return 0;
     }
-    if op < 16 {
+    if op < OPS {
         let at = (op as usize) * 4 + (k as usize);
         return OPERAND_KINDS[at];
     }

@@ -1,5 +1,7 @@
 // Rule 14 of a plan's behaviours, and the line that is told of it.
+use node::CLAUSE;
 use node::Op;
+use node::RECV;
 ghost use mathlib.Core.Path.{_≡_};
 ghost use Prim.Native.Nat.{_+_, _*_, _<_};
 ghost use lib.ListN.{getD, take, drop};
@@ -78,10 +80,10 @@ fn well_placed(len: u8, ops: [Op; 256], k: u8, t: u8, left: u8) -> bool
 {
     let op = op_of(ops, k, t);
     let number = op.number;
-    if number == 10 {
+    if number == RECV {
         return has_clauses(len, ops, k, t, op.small);
     }
-    if number == 11 {
+    if number == CLAUSE {
         if left == 0 {
             return false;
         }
@@ -102,7 +104,7 @@ fn has_clauses(len: u8, ops: [Op; 256], k: u8, t: u8, n: u8) -> bool
     let mut i: u8 = 0;
     while i < n {
         let op = op_of(ops, k, next + i);
-        if op.number != 11 {
+        if op.number != CLAUSE {
             return false;
         }
         i += 1;
@@ -119,5 +121,5 @@ fn lands_free(len: u8, ops: [Op; 256], k: u8, op: Op) -> bool
         return true;
     }
     let there = op_of(ops, k, to);
-    there.number != 11
+    there.number != CLAUSE
 }

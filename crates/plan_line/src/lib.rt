@@ -1,5 +1,6 @@
 // The lines of a plan, each read on its own.
 use node::BehaviourNumber;
+use node::EXACT;
 use node::Op;
 use node::ProcessNumber;
 use node::Value;
@@ -259,7 +260,7 @@ fn exact_value(x: Parsed) -> Operand
     let value = x.value;
     Operand {
         refusal: x.refusal,
-        number: 5,
+        number: EXACT,
         value,
     }
 }

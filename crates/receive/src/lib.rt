@@ -9,6 +9,7 @@ ghost use Rattle.rules.specs.Receive.{fits, search, kept};
 ghost use Rattle.receive.specs.Answers.{searchAt, foundOf, stateOf, fitAt, received};
 use node::Mailbox;
 use node::Message;
+use node::NO_FIT;
 use node::Op;
 use node::Process;
 use node::Value;
@@ -26,50 +27,18 @@ pub struct Received {
     pub mail: Mailbox,
 }
 
-// Equal in kind and number.
-pub fn same_value(a: Value, b: Value) -> bool
-    ensures { λ r. ⌜ r ≡ sameValue a b ⌝ }
+// What a recv with the first n of the clauses does.
+pub fn receive(p: Process, mail: Mailbox, clauses: [Op; 8], n: u8) -> Received
+    ensures { λ r. ⌜ r ≡ received (stateOf p mail) (search (take n clauses) 0 (messages mail)) ⌝ }
 {
-    match a {
-        Value::Int(x) => match b {
-            Value::Int(y) => x == y,
-            Value::Atom(_) => false,
-            Value::Pid(_) => false,
+    let found = search(clauses, n, mail);
+    match found {
+        Found::Nothing => Received {
+            refusal: NO_FIT,
+            process: p,
+            mail: mail,
         },
-        Value::Atom(x) => match b {
-            Value::Int(_) => false,
-            Value::Atom(y) => x == y,
-            Value::Pid(_) => false,
-        },
-        Value::Pid(x) => match b {
-            Value::Int(_) => false,
-            Value::Atom(_) => false,
-            Value::Pid(y) => x.0 == y.0,
-        },
-    }
-}
-
-// Clause c takes message m.
-pub fn fits(c: Op, m: Message) -> bool
-    ensures { λ r. ⌜ r ≡ fits c m ⌝ }
-{
-    let kind = c.small;
-    if kind == 0 {
-        return true;
-    }
-    match m {
-        Message::Note(_, _) => kind == 4,
-        Message::Plain(v) => {
-            if 4 < kind {
-                let w = c.value;
-                return same_value(v, w);
-            }
-            match v {
-                Value::Int(_) => kind == 1,
-                Value::Atom(_) => kind == 2,
-                Value::Pid(_) => kind == 3,
-            }
-        }
+        Found::Fit(i, k) => taken(p, mail, clauses, i, k),
     }
 }
 
@@ -106,6 +75,53 @@ pub fn search(clauses: [Op; 8], n: u8, mail: Mailbox) -> Found
     found
 }
 
+// Clause c takes message m.
+pub fn fits(c: Op, m: Message) -> bool
+    ensures { λ r. ⌜ r ≡ fits c m ⌝ }
+{
+    let kind = c.small;
+    if kind == 0 {
+        return true;
+    }
+    match m {
+        Message::Note(_, _) => kind == 4,
+        Message::Plain(v) => {
+            if 4 < kind {
+                let w = c.value;
+                return same_value(v, w);
+            }
+            match v {
+                Value::Int(_) => kind == 1,
+                Value::Atom(_) => kind == 2,
+                Value::Pid(_) => kind == 3,
+            }
+        }
+    }
+}
+
+// Equal in kind and number.
+pub fn same_value(a: Value, b: Value) -> bool
+    ensures { λ r. ⌜ r ≡ sameValue a b ⌝ }
+{
+    match a {
+        Value::Int(x) => match b {
+            Value::Int(y) => x == y,
+            Value::Atom(_) => false,
+            Value::Pid(_) => false,
+        },
+        Value::Atom(x) => match b {
+            Value::Int(_) => false,
+            Value::Atom(y) => x == y,
+            Value::Pid(_) => false,
+        },
+        Value::Pid(x) => match b {
+            Value::Int(_) => false,
+            Value::Atom(_) => false,
+            Value::Pid(y) => x.0 == y.0,
+        },
+    }
+}
+
 // Process p with message m in the registers that clause c names.
 fn keep(p: Process, c: Op, m: Message) -> Process
     ensures { λ r. ⌜ r ≡ kept p c m ⌝ }
@@ -113,21 +129,6 @@ fn keep(p: Process, c: Op, m: Message) -> Process
     match m {
         Message::Plain(v) => p.with_register(c.r, v),
         Message::Note(j, v) => p.with_register(c.r, Value::Pid(j)).with_register(c.s, v),
-    }
-}
-
-// What a recv with the first n of the clauses does.
-pub fn receive(p: Process, mail: Mailbox, clauses: [Op; 8], n: u8) -> Received
-    ensures { λ r. ⌜ r ≡ received (stateOf p mail) (search (take n clauses) 0 (messages mail)) ⌝ }
-{
-    let found = search(clauses, n, mail);
-    match found {
-        Found::Nothing => Received {
-            refusal: 25,
-            process: p,
-            mail: mail,
-        },
-        Found::Fit(i, k) => taken(p, mail, clauses, i, k),
     }
 }
 

@@ -12,7 +12,7 @@ use lib.ListN.{length, getD, take, drop}
 use Rattle.node.specs.declared.Op.{Op}
 use Rattle.node.specs.declared.Value.{Value}
 use Rattle.node.specs.Lists.{allFrom, allOf, allTwo}
-use Rattle.node.specs.Ops.{kindsOf}
+use Rattle.node.specs.Ops.{kindsOf, opCount, recvOp, clauseOp, exactKind}
 use Rattle.node.specs.Values.{intZero}
 use Rattle.rules.specs.Values.{isNumber, valueSound}
 
@@ -41,7 +41,7 @@ operand o kind =
     ∷ numeric (o .process .0)  -- process number q
     ∷ numeric (o .small)  -- flag f
     ∷ numeric (o .small)  -- count n of clauses
-    ∷ record { number = o .small; value = cond (eqb (o .small) 5) (o .value) intZero }  -- clause kind k
+    ∷ record { number = o .small; value = cond (eqb (o .small) exactKind) (o .value) intZero }  -- clause kind k
     ∷ [])
     kind (numeric 0)
 
@@ -62,18 +62,18 @@ operandInRange c n kind x =
     ∷ isNumber (x .number)  -- process number q
     ∷ leb (x .number) 1  -- flag f
     ∷ (leb 1 (x .number) && leb (x .number) 8)  -- count n of clauses
-    ∷ (leb (x .number) 5 && valueSound (x .value))  -- clause kind k
+    ∷ (leb (x .number) exactKind && valueSound (x .value))  -- clause kind k
     ∷ [])
     kind true
 
 unfoldable pub inRange : ℕ → ℕ → Instruction → Bool
-inRange c n x = ltb (x .number) 16 && allTwo (operandInRange c n) (kindsOf (x .number)) (x .operands)
+inRange c n x = ltb (x .number) opCount && allTwo (operandInRange c n) (kindsOf (x .number)) (x .operands)
 
 abbrev pub isRecv : Instruction → Bool
-isRecv x = eqb (x .number) 10
+isRecv x = eqb (x .number) recvOp
 
 abbrev pub isClause : Instruction → Bool
-isClause x = eqb (x .number) 11
+isClause x = eqb (x .number) clauseOp
 
 -- recv's n
 abbrev pub clauseCount : Instruction → ℕ

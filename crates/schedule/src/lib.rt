@@ -3,6 +3,7 @@ ghost use mathlib.Core.Path.{_≡_};
 ghost use lib.ListN.{set};
 ghost use Rattle.text.specs.Parts.{fieldsOf};
 ghost use Rattle.schedule.specs.Reading.{packedOf, arrivalOf, stepOf, lineOf, refusedText, scheduleOf};
+use node::SCHEDULE_TOO_LONG;
 use text::Ranged;
 
 // Text above this many bytes is refused.
@@ -10,9 +11,6 @@ const LIMIT: usize = 61440;
 
 // The most steps that a schedule has.
 const ROOM: usize = 4096;
-
-// Steps text above its limit, or with too many lines.
-const TOO_LONG: u8 = 32;
 
 const MALFORMED: u8 = 15;
 
@@ -36,7 +34,7 @@ pub fn read(text: &[u8]) -> Schedule
     ensures { λ r. ⌜ r ≡ scheduleOf (now (text .entry)) ⌝ }
 {
     if LIMIT < text.len() {
-        return refused(TOO_LONG, 0);
+        return refused(SCHEDULE_TOO_LONG, 0);
     }
     let mut steps = [0u32; 4096];
     let mut count = 0;
@@ -55,7 +53,7 @@ pub fn read(text: &[u8]) -> Schedule
         at = e + 1;
     }
     if ROOM < count {
-        return refused(TOO_LONG, 0);
+        return refused(SCHEDULE_TOO_LONG, 0);
     }
     Schedule {
         number: 0,

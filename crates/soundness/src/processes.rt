@@ -3,8 +3,10 @@ ghost use mathlib.Core.Path.{_≡_};
 ghost use lib.Dec.{eqb};
 ghost use Rattle.behaviours.specs.Codes.{codesIn};
 ghost use Rattle.node.specs.Lists.{allFrom};
+ghost use Rattle.node.specs.Ops.{clauseOp};
 ghost use Rattle.rules.specs.Nodes.{running, setOf, standing, standingSound};
 ghost use Rattle.soundness.specs.Parts.{lengthIn, opPlace, runningTold, standingTold, standingsIn};
+use node::CLAUSE;
 use node::Mailbox;
 use node::Op;
 use node::Peers;
@@ -78,7 +80,7 @@ pub fn process_sound(
     lens: [u8; 8],
     there: u8,
 ) -> bool
-    ensures { λ r. ⌜ r ≡ standingTold count (lengthIn count lens (p .behaviour .0)) (eqb there 11) (i .0) (standing p m) ⌝ }
+    ensures { λ r. ⌜ r ≡ standingTold count (lengthIn count lens (p .behaviour .0)) (eqb there clauseOp) (i .0) (standing p m) ⌝ }
 {
     let links = p.links;
     let stage = p.stage;
@@ -102,7 +104,7 @@ pub fn process_sound(
 }
 
 pub fn running_sound(p: Process, m: Mailbox, count: u8, lens: [u8; 8], there: u8) -> bool
-    ensures { λ r. ⌜ r ≡ runningTold count (lengthIn count lens (p .behaviour .0)) (eqb there 11) (running p m) ⌝ }
+    ensures { λ r. ⌜ r ≡ runningTold count (lengthIn count lens (p .behaviour .0)) (eqb there clauseOp) (running p m) ⌝ }
 {
     let b = p.behaviour;
     let number = b.0;
@@ -112,7 +114,7 @@ pub fn running_sound(p: Process, m: Mailbox, count: u8, lens: [u8; 8], there: u8
     if code_len(count, lens, p) < p.place {
         return false;
     }
-    if there == 11 {
+    if there == CLAUSE {
         return false;
     }
     if !super::values::registers_sound(p) {

@@ -11,8 +11,10 @@ ghost use Rattle.engine.specs.Answers.{playedOf};
 ghost use Rattle.rules.specs.Steps.{meaning, play};
 ghost use Rattle.steps.specs.Walk.{begins, goesOn};
 use engine::Played;
+use node::NOT_SOUND;
 use node::Node;
 use node::ProcessNumber;
+use node::SCHEDULE_TOO_LONG;
 use node::Step;
 
 // The most steps of a schedule.
@@ -72,7 +74,7 @@ fn begun(n: Node, count: usize) -> Played
         if LONGEST < count {
             return Played {
                 node: n,
-                refusal: 32,
+                refusal: SCHEDULE_TOO_LONG,
                 accepted: 0,
             };
         }
@@ -84,7 +86,7 @@ fn begun(n: Node, count: usize) -> Played
     }
     Played {
         node: n,
-        refusal: 31,
+        refusal: NOT_SOUND,
         accepted: 0,
     }
 }
