@@ -15,7 +15,7 @@ use Rattle.node.specs.declared.ProcessNumber.{ProcessNumber}
 use Rattle.node.specs.declared.Step.{Step}
 use Rattle.node.specs.Nodes.{pair}
 use Rattle.rules.specs.Steps.{Action, run, arrive, meaning, numbered}
-use Rattle.rules.specs.Values.{isNumber}
+use Rattle.node.specs.Values.{isNumber}
 use Rattle.rules.proofs.All.{parts}
 use Rattle.rules.proofs.Records.{number-bounds}
 use Rattle.actions.specs.declared.Decoded.{Decoded}

@@ -23,7 +23,7 @@ use Rattle.node.specs.Mailboxes.{joined, emptied, messages}
 use Rattle.node.specs.Nodes.{noOp, noProcess, noMailbox, noRow, pair}
 use Rattle.node.specs.Processes.{fresh}
 use Rattle.node.specs.Rows.{oldest, pushed, popped}
-use Rattle.node.specs.Values.{pid}
+use Rattle.node.specs.Values.{pid, isNumber}
 use Rattle.receive.specs.declared.Received.{Received}
 use Rattle.receive.specs.Answers.{stateOf, received}
 use Rattle.receive.proofs.Laws.{received-refused, received-done}
@@ -33,7 +33,6 @@ use Rattle.rules.specs.Nodes.{Sound, behavioursOf, code, process, mailbox, row}
 use Rattle.rules.specs.Receive.{Fit, search, receivesFit, receives}
 use Rattle.rules.specs.Run.{runs}
 use Rattle.rules.specs.Steps.{Action, run, arrive, owner, isUnborn, numbered, ownerBorn, signalWaits, pairHasRoom, numberFree, incoming, decide, rule}
-use Rattle.rules.specs.Values.{isNumber}
 use Rattle.rules.proofs.Commute.{incoming-oldest}
 use Rattle.rules.proofs.Keeps.{Keeps, NotBoth}
 use Rattle.rules.proofs.Kept.{Parts, parts-of, decided-keeps, owner-number}

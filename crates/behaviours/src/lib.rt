@@ -3,9 +3,8 @@ ghost use mathlib.Core.Bool.{_&&_, cond};
 ghost use mathlib.Core.Path.{_≡_};
 ghost use lib.Dec.{eqb, leb};
 ghost use Rattle.node.specs.Lists.{allOf};
-ghost use Rattle.node.specs.Values.{intZero};
+ghost use Rattle.node.specs.Values.{intZero, isNumber, valueSound};
 ghost use Rattle.rules.specs.Behaviours.{codeSound, dueNext, inRange, instruction};
-ghost use Rattle.rules.specs.Values.{isNumber, valueSound};
 ghost use Rattle.behaviours.specs.Codes.{codesIn, hasTarget, placedBy};
 use node::BehaviourNumber;
 use node::CLAUSE;
@@ -151,34 +150,6 @@ pub fn clause_kind_sound(kind: u8, v: Value) -> bool
         return value_sound(v);
     }
     true
-}
-
-pub fn within(n: u8, least: u8, most: u8) -> bool
-    ensures { λ r. ⌜ r ≡ (leb least n && leb n most) ⌝ }
-{
-    if n < least {
-        return false;
-    }
-    n <= most
-}
-
-pub fn is_number(i: u8) -> bool
-    ensures { λ r. ⌜ r ≡ isNumber i ⌝ }
-{
-    within(i, 1, 16)
-}
-
-pub fn value_sound(v: Value) -> bool
-    ensures { λ r. ⌜ r ≡ valueSound v ⌝ }
-{
-    match v {
-        Value::Int(_i) => true,
-        Value::Atom(_a) => true,
-        Value::Pid(j) => {
-            let i = j.0;
-            is_number(i)
-        }
-    }
 }
 
 fn registers(r: u8, s: u8) -> bool

@@ -24,7 +24,7 @@ use Rattle.node.specs.Ops.{stopOp, kindsOf}
 use Rattle.node.specs.Processes.{unborn, fresh, register, withRegister, moved, advanced, trapped, linksTo, linked, unlinked, ended, gone, withPlace}
 use Rattle.node.specs.Sets.{noPeers, bitsOf, has, withPeer, withoutPeer, lowestPeer}
 use Rattle.node.specs.Rows.{noSignal, emptyRow, signals, oldest, pushed, popped}
-use Rattle.node.specs.Values.{intZero, normal, kill, killed, badarith, pid}
+use Rattle.node.specs.Values.{intZero, normal, kill, killed, badarith, pid, isNumber, fitsInt}
 use Rattle.node.specs.Texts.{bytes}
 use Rattle.rules.specs.Arrive.{arrives, exits}
 use Rattle.rules.specs.Behaviours.{operand, instruction, operandInRange, inRange, hasClauses, targetsFree, wellPlaced, codeSound}
@@ -32,7 +32,6 @@ use Rattle.rules.specs.Nodes.{Sound, sound, shaped, viewSound, view, behaviours
 use Rattle.rules.specs.Receive.{receives, fits}
 use Rattle.rules.specs.Run.{runs, runsLive, runsOp, closes}
 use Rattle.rules.specs.Steps.{Action, run, arrive, meaning, Played, play, played, step, rule, ready, commit, incoming, decide, at, numbered, ownerBorn, signalWaits, pairHasRoom, numberFree}
-use Rattle.rules.specs.Values.{isNumber, fitsInt}
 use Rattle.rules.proofs.Sample.{opOf, int, sample, started}
 use Rattle.actions.specs.Numbers.{decode, actionOf}
 use Rattle.listing.specs.Listing.{listingOf}

@@ -30,13 +30,12 @@ use Rattle.node.specs.Mailboxes.{noMessage, emptyMailbox, messages, joined}
 use Rattle.node.specs.Nodes.{noOp, noMailbox}
 use Rattle.node.specs.Processes.{register, advanced, linksTo, linked, unlinked}
 use Rattle.node.specs.Sets.{lowestPeer}
-use Rattle.node.specs.Values.{normal, kill, badarith}
+use Rattle.node.specs.Values.{normal, kill, badarith, fitsInt, sameValue}
 use Rattle.rules.specs.Answers.{Answer, done, need, mailboxFull}
 use Rattle.rules.specs.Arrive.{joinsWith, exits, takes, arrivesIn, arrives}
 use Rattle.rules.specs.Effects.{State, Effect, becomes, ends, sends}
 use Rattle.rules.specs.Receive.{receives}
 use Rattle.rules.specs.Run.{setsRegister, adds, compares, toProcess, toOther, opTable, runsOp, closesTo, closes, runsLive, runsIn, runs}
-use Rattle.rules.specs.Values.{fitsInt, sameValue}
 use Rattle.decisions.proofs.Laws.{ops-length, ops-op}
 use Rattle.receive.specs.Answers.{stateOf}
 use Rattle.decisions.specs.Answers.{unread, effectOf, codeAt, ran, arrived, answerOf}

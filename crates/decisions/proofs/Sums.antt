@@ -13,7 +13,7 @@ use mir.ValLaws.{toZ-ofZ}
 use Rattle.decisions.specs.Answers.{sumOf}
 use Rattle.decisions.specs.declared.Sum.{Sum}
 use Rattle.node.specs.declared.Value.the-variants.{Int}
-use Rattle.rules.specs.Values.{least, greatest, fitsInt}
+use Rattle.node.specs.Values.{least, greatest, fitsInt}
 
 mag-cond : (t : Bool) (a b k : ℕ) → a ≤ k → b ≤ k → mag (cond t (negsuc a) (pos b)) ≤ k
 mag-cond true a b k h g = h

@@ -34,7 +34,7 @@ use Rattle.node.specs.declared.Value.the-variants.{Int, Atom, Pid}
 use Rattle.node.specs.Mailboxes.{noMessage, emptyMailbox, joined}
 use Rattle.node.specs.Nodes.{noOp, noProcess}
 use Rattle.node.specs.Processes.{fresh}
-use Rattle.node.specs.Values.{intZero, pid}
+use Rattle.node.specs.Values.{intZero, pid, fitsInt}
 use Rattle.receive.specs.Answers.{stateOf}
 use Rattle.rules.specs.Answers.{Answer, refused, done, noFit}
 use Rattle.rules.specs.Arrive.{arrives}
@@ -42,7 +42,6 @@ use Rattle.rules.specs.Effects.{State, Sending, Birth}
 use Rattle.rules.specs.Effects as effects
 use Rattle.rules.specs.Receive.{receives}
 use Rattle.rules.specs.Run.{runs, runsOp}
-use Rattle.rules.specs.Values.{fitsInt}
 use Rattle.decisions.specs.declared.Pair.{Pair}
 use Rattle.decisions.specs.declared.Pair.the-variants.{Not, Both}
 use Rattle.decisions.specs.declared.Sum.{Sum}

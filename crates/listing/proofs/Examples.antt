@@ -13,7 +13,7 @@ use Rattle.node.specs.Ops.{kindsOf}
 use Rattle.node.specs.Processes.{register, withRegister, moved, advanced, linksTo}
 use Rattle.node.specs.Sets.{bitsOf, has}
 use Rattle.node.specs.Rows.{signals, oldest, pushed, popped}
-use Rattle.node.specs.Values.{intZero, normal, killed, pid}
+use Rattle.node.specs.Values.{intZero, normal, killed, pid, isNumber, fitsInt}
 use Rattle.node.specs.Texts.{bytes}
 use Rattle.rules.proofs.Sample.{opOf, sample, started}
 use Rattle.rules.specs.Arrive.{arrives}
@@ -22,7 +22,6 @@ use Rattle.rules.specs.Nodes.{unborn, live, closing, gone, sound, shaped, viewS
 use Rattle.rules.specs.Receive.{receives, fits}
 use Rattle.rules.specs.Run.{runs, runsLive, runsOp}
 use Rattle.rules.specs.Steps.{run, arrive, play, played, step, rule, ready, commit, incoming, decide, at, numbered, ownerBorn, signalWaits, pairHasRoom, numberFree}
-use Rattle.rules.specs.Values.{isNumber, fitsInt}
 use Rattle.text.specs.Values.{numberText, valueText}
 use Rattle.text.specs.Writing.{digitsIn, digits, intText, each}
 use Rattle.listing_lines.specs.Lines.{numberLine, valueLine, eachFrom, members, withCommas, setLine, registerLine, messageLine, mailText, standingText, signalLine, flightLine, pairText}

@@ -14,7 +14,7 @@ use Rattle.node.specs.Rows.{signals}
 use Rattle.rules.proofs.All.{parts}
 use Rattle.rules.proofs.Kept.{parts-of, number-of}
 use Rattle.rules.specs.Nodes.{process, mailbox, row, standing, view, behavioursOf, Equal, Sound}
-use Rattle.rules.specs.Values.{numbers}
+use Rattle.node.specs.Values.{numbers}
 use Rattle.listing_lines.proofs.Longest.{Within, _⊕_, made-within, longestProcess, standing-within, longestPair, pair-within}
 use Rattle.listing_lines.specs.Lines.{standingText, pairText}
 use Rattle.listing.specs.Answers.{told, shown}

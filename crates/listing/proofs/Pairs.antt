@@ -13,7 +13,7 @@ use Rattle.node.specs.Lists.{rising}
 use Rattle.node.specs.Nodes.{noRow}
 use Rattle.node.specs.Rows.{signals}
 use Rattle.rules.specs.Nodes.{view}
-use Rattle.rules.specs.Values.{numbers}
+use Rattle.node.specs.Values.{numbers}
 use Rattle.text.proofs.Writing.{Left, left-item, left-end}
 use Rattle.text.specs.Writing.{Wrote, each}
 use Rattle.listing_lines.specs.Lines.{eachFrom, pairText}

@@ -34,7 +34,7 @@ use Rattle.node.specs.Rows.{signals, noSignal}
 use Rattle.node.specs.Texts.{bytes}
 use Rattle.rules.proofs.All.{rising-at}
 use Rattle.rules.specs.Nodes.{standing, standingIn, setOf}
-use Rattle.rules.specs.Values.{numbers, isNumber}
+use Rattle.node.specs.Values.{numbers, isNumber}
 use Rattle.text.proofs.Writing.{Left, left-all, left-more, left-none, left-item, left-end, wrote-then}
 use Rattle.text.specs.Writing.{top, Wrote, digits, digitsIn, each}
 use Rattle.listing_lines.specs.Lines.{comma, numberLine, valueLine, eachFrom, joinsIf, members, withCommas, registerLine, messageLine, mailText, standingText, signalLine, flightLine, pairText}

@@ -35,7 +35,7 @@ use Rattle.rules.proofs.Places.{code-short}
 use Rattle.rules.proofs.Records.{number-bounds}
 use Rattle.rules.specs.Behaviours.{Instruction, codeSound}
 use Rattle.rules.specs.Nodes.{live, running, setOf, standing, standingIn, standingSound, signalSound, rowSound}
-use Rattle.rules.specs.Values.{numbers, isNumber, fitsInt, valueSound, messageSound}
+use Rattle.node.specs.Values.{numbers, isNumber, fitsInt, valueSound, messageSound}
 use Rattle.text.proofs.Digits.{digits-length}
 use Rattle.text.specs.Values.{valueText, numberText}
 use Rattle.text.specs.Writing.{digits, intText, each}

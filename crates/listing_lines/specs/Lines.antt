@@ -24,7 +24,7 @@ use Rattle.node.specs.declared.Value.the-variants.{Pid}
 use Rattle.node.specs.declared.Value.{Value}
 use Rattle.node.specs.Texts.{bytes}
 use Rattle.rules.specs.Nodes.{Standing, unborn, live, closing, gone}
-use Rattle.rules.specs.Values.{numbers}
+use Rattle.node.specs.Values.{numbers}
 use Rattle.text.specs.Values.{valueText}
 use Rattle.text.specs.Writing.{digits, each}
 use Rattle.listing_lines.specs.Words.{processKey, liveLine, closingLine, goneLine, behaviourKey, placeKey, trapKey, linksKey, reasonKey, mailKey, messageKey, noteKey, flightKey, msgKey, exitKey, linkLine, unlinkLine}

@@ -19,7 +19,7 @@ ghost use mathlib.Core.Path.{_≡_};
 ghost use Rattle.node.specs.Mailboxes.{messages};
 ghost use Rattle.node.specs.Rows.{signals};
 ghost use Rattle.rules.specs.Nodes.{setOf, running, live, closing, gone, standing};
-ghost use Rattle.rules.specs.Values.{numbers};
+ghost use Rattle.node.specs.Values.{numbers};
 ghost use Rattle.text.specs.Writing.{Wrote, digits, each};
 ghost use Rattle.listing_lines.specs.Lines.{comma, numberLine, valueLine, eachFrom, flag, members, withCommas, setLine, registerLine, messageLine, mailText, standingText, signalLine, flightLine, pairText};
 

@@ -1,3 +1,6 @@
+pub mod Tests
+pub mod Values
+pub mod Signed
 pub mod Lists
 pub mod Sets
 pub mod Good

@@ -6,7 +6,6 @@
 --   kindsOf n         what the operands of op n are, in their order
 --   stopOp            the op `stop,0`
 --   opCount recvOp clauseOp   how many ops there are, and the numbers of recv and clause
---   exactKind         the clause kind of one exact value
 use mathlib.Core.Bool.{cond}
 use mathlib.Core.List.{List, [], _∷_}
 use Prim.Native.Nat.{ℕ, _+_, _*_}
@@ -49,9 +48,6 @@ recvOp = 10
 
 abbrev pub clauseOp : ℕ
 clauseOp = 11
-
-abbrev pub exactKind : ℕ
-exactKind = 5
 
 unfoldable pub operandKind : ℕ → ℕ → ℕ
 operandKind n k = cond (ltb k 4) (getD operandKinds (n * 4 + k) 0) 0

@@ -1,9 +1,12 @@
 // The types of a node, the constructors of fresh processes and of the blank node, what a step makes of a record, and the tables of ops.
+ghost use mathlib.Core.Bool.{_&&_};
 ghost use mathlib.Core.Path.{_≡_};
 ghost use Prim.Native.Nat.{_+_, _-_, min};
+ghost use lib.Dec.{leb};
 ghost use lib.ListN.{getD};
 ghost use Rattle.node.specs.Ops.{operandCounts, operandKind, stopOp};
 ghost use Rattle.node.specs.Processes.{unborn, fresh, register, withRegister, moved, advanced, trapped, linksTo, linked, unlinked, ended, gone, withRegisters, withLinks, withStage};
+ghost use Rattle.node.specs.Values.{isNumber, valueSound, kindOf, messageKind, numberIn, sameValue};
 ghost use Rattle.node.specs.Sets.{noPeers, has, withPeer, withoutPeer, lowestPeer};
 ghost use Rattle.node.specs.Mailboxes.{noMessage, emptyMailbox, joined, without, emptied};
 ghost use Rattle.node.specs.Rows.{noSignal, emptyRow, oldest, pushed, popped};
@@ -34,12 +37,44 @@ impl Value {
     pub const BADARITH: Value = Value::Atom(4);
     // i0, the content of a fresh register.
     pub const ZERO: Value = Value::Int(0);
+
+    pub fn kind(self) -> u8
+        ensures { λ r. ⌜ r ≡ kindOf self ⌝ }
+    {
+        match self {
+            Value::Int(_) => INT,
+            Value::Atom(_) => ATOM,
+            Value::Pid(_) => PID,
+        }
+    }
+
+    // The number that the value holds.
+    pub fn number(self) -> i32
+        ensures { λ r. ⌜ r ≡ numberIn self ⌝ }
+    {
+        match self {
+            Value::Int(z) => z,
+            Value::Atom(a) => a as i32,
+            Value::Pid(j) => j.0 as i32,
+        }
+    }
 }
 
 // A message in a mailbox: a plain value, or a note (the field's 'EXIT' message) with its sender and the exit reason.
 pub enum Message {
     Plain(Value),
     Note(ProcessNumber, Value),
+}
+
+impl Message {
+    pub fn kind(self) -> u8
+        ensures { λ r. ⌜ r ≡ messageKind self ⌝ }
+    {
+        match self {
+            Message::Plain(v) => v.kind(),
+            Message::Note(_, _) => NOTE,
+        }
+    }
 }
 
 // A signal in flight. The bool of an exit signal says that it was sent along a link.
@@ -160,8 +195,19 @@ pub const RECV: u8 = 10;
 
 pub const CLAUSE: u8 = 11;
 
-// The clause kind of one exact value.
-pub const EXACT: u8 = 5;
+// The kinds of a clause: one exact value, every message, then the kinds of messages. The exact value has the first number, so that a new
+// kind moves none.
+pub const EXACT: u8 = 0;
+
+pub const ANY: u8 = 1;
+
+pub const INT: u8 = 2;
+
+pub const ATOM: u8 = 3;
+
+pub const PID: u8 = 4;
+
+pub const NOTE: u8 = 5;
 
 // How many operands each op has, by its number.
 const OPERANDS: [u8; 16] = [2, 2, 1, 2, 2, 2, 1, 1, 1, 3, 1, 4, 1, 3, 3, 1];
@@ -257,6 +303,44 @@ pub fn operand_kind(op: u8, k: u8) -> u8
         return OPERAND_KINDS[at];
     }
     0
+}
+
+pub fn within(n: u8, least: u8, most: u8) -> bool
+    ensures { λ r. ⌜ r ≡ (leb least n && leb n most) ⌝ }
+{
+    if n < least {
+        return false;
+    }
+    n <= most
+}
+
+pub fn is_number(i: u8) -> bool
+    ensures { λ r. ⌜ r ≡ isNumber i ⌝ }
+{
+    within(i, 1, 16)
+}
+
+pub fn value_sound(v: Value) -> bool
+    ensures { λ r. ⌜ r ≡ valueSound v ⌝ }
+{
+    match v {
+        Value::Int(_i) => true,
+        Value::Atom(_a) => true,
+        Value::Pid(j) => {
+            let i = j.0;
+            is_number(i)
+        }
+    }
+}
+
+// Equal in kind and number.
+pub fn same_value(a: Value, b: Value) -> bool
+    ensures { λ r. ⌜ r ≡ sameValue a b ⌝ }
+{
+    if a.kind() == b.kind() {
+        return a.number() == b.number();
+    }
+    false
 }
 
 // One more, held at the top of a byte, so that no count or place wraps.

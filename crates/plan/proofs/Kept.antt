@@ -15,7 +15,7 @@ use Rattle.node.specs.declared.ProcessNumber.{ProcessNumber}
 use Rattle.node.specs.Lists.{allOf}
 use Rattle.rules.specs.Answers.{Answer, refused, done, need}
 use Rattle.rules.specs.Behaviours.{inRange, instruction}
-use Rattle.rules.specs.Values.{isNumber}
+use Rattle.node.specs.Values.{isNumber}
 use Rattle.rules.proofs.All.{both, allOf-join}
 use Rattle.behaviours.proofs.Operands.{in-range-by}
 use Rattle.text.specs.Parts.{Lines}

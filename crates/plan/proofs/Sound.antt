@@ -24,11 +24,10 @@ use Rattle.node.specs.Ops.{kindsOf}
 use Rattle.node.specs.Nodes.{blankNode, noProcess, noMailbox, noRow, pair}
 use Rattle.node.specs.Processes.{fresh, unborn}
 use Rattle.node.specs.Rows.{emptyRow, signals}
-use Rattle.node.specs.Values.{intZero}
+use Rattle.node.specs.Values.{intZero, fitsInt, isNumber}
 use Rattle.node.proofs.Lists.{allFrom-both, allOf-from}
 use Rattle.rules.specs.Behaviours.{Instruction, codeSound, hasClauses, inRange, instruction, operand, operandInRange, targetsFree, wellPlaced}
 use Rattle.rules.specs.Nodes.{Sound, behavioursOf, code, mailbox, process, rowSound, standing, standingSound}
-use Rattle.rules.specs.Values.{fitsInt, isNumber}
 use Rattle.rules.proofs.All.{both, parts, allOf-map}
 use Rattle.rules.proofs.Firsts.{set-read}
 use Rattle.rules.proofs.Kept.{of-parts}

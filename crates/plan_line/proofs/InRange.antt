@@ -17,11 +17,10 @@ use Rattle.node.specs.declared.Op.{Op}
 use Rattle.node.specs.declared.Value.the-variants.{Int, Atom}
 use Rattle.node.specs.Lists.{allOf, rising}
 use Rattle.node.specs.Ops.{operandCounts, kindsOf}
-use Rattle.node.specs.Values.{intZero, pid}
+use Rattle.node.specs.Values.{intZero, pid, fitsInt, isNumber, valueSound}
 use Rattle.rules.specs.Answers.{Answer, refused, done}
 use Rattle.rules.specs.Behaviours as rules
 use Rattle.rules.specs.Behaviours.{operand, operandInRange}
-use Rattle.rules.specs.Values.{fitsInt, isNumber, valueSound}
 use Rattle.rules.proofs.All.{both, parts, allOf-at, rising-at}
 use Rattle.text.specs.declared.Parsed.{Parsed}
 use Rattle.text.specs.Numbers.{malformed, outOfRange, Signed, numberOf, rangedOf}

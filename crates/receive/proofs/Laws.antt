@@ -26,7 +26,7 @@ use Rattle.node.proofs.Contents.{messages-at, messages-length}
 use Rattle.rules.specs.Answers.{Answer, refused, done, noFit}
 use Rattle.rules.specs.Effects.{State}
 use Rattle.rules.specs.Receive.{Fit, isInt, isAtom, isPid, isNote, isValue, fits, firstClause, search, receivesFit}
-use Rattle.rules.specs.Values.{sameValue}
+use Rattle.node.specs.Values.{sameValue}
 use Rattle.receive.specs.Answers.{Indices, firstAt, searchAt, fitAt, received}
 use Rattle.receive.specs.declared.Received.{Received}
 

@@ -4,7 +4,7 @@ ghost use mathlib.Core.Path.{_≡_};
 ghost use lib.ListN.{take, getD};
 ghost use Rattle.node.specs.Mailboxes.{messages};
 ghost use Rattle.node.specs.Nodes.{noOp};
-ghost use Rattle.rules.specs.Values.{sameValue};
+ghost use Rattle.node.specs.Values.{sameValue};
 ghost use Rattle.rules.specs.Receive.{fits, search, kept};
 ghost use Rattle.receive.specs.Answers.{searchAt, foundOf, stateOf, fitAt, received};
 use node::Mailbox;
@@ -96,29 +96,6 @@ pub fn fits(c: Op, m: Message) -> bool
                 Value::Pid(_) => kind == 3,
             }
         }
-    }
-}
-
-// Equal in kind and number.
-pub fn same_value(a: Value, b: Value) -> bool
-    ensures { λ r. ⌜ r ≡ sameValue a b ⌝ }
-{
-    match a {
-        Value::Int(x) => match b {
-            Value::Int(y) => x == y,
-            Value::Atom(_) => false,
-            Value::Pid(_) => false,
-        },
-        Value::Atom(x) => match b {
-            Value::Int(_) => false,
-            Value::Atom(y) => x == y,
-            Value::Pid(_) => false,
-        },
-        Value::Pid(x) => match b {
-            Value::Int(_) => false,
-            Value::Atom(_) => false,
-            Value::Pid(y) => x.0 == y.0,
-        },
     }
 }
 

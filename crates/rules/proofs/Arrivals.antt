@@ -15,14 +15,13 @@ use Rattle.node.specs.declared.Signal.the-variants.{Msg, Exit, Link, Unlink}
 use Rattle.node.specs.declared.Value.{Value}
 use Rattle.node.specs.Mailboxes.{joined, sixteenSlots}
 use Rattle.node.specs.Processes.{linked, unlinked, ended}
-use Rattle.node.specs.Values.{killed}
+use Rattle.node.specs.Values.{killed, isNumber, valueSound, messageSound}
 use Rattle.rules.specs.Answers.{Answer}
 use Rattle.rules.specs.Arrive.{arrives, takes, exits, joinsWith, notes}
 use Rattle.rules.specs.Behaviours.{Instruction}
 use Rattle.rules.specs.Effects.{State, Effect, becomes, ends}
 use Rattle.rules.specs.Nodes.{standing, standingSound, signalSound, sound}
 use Rattle.rules.specs.Steps.{isUnborn}
-use Rattle.rules.specs.Values.{isNumber, valueSound, messageSound}
 use Rattle.rules.proofs.All.{both}
 use Rattle.rules.proofs.Cases.{joins-any, exits-any, arrives-any}
 use Rattle.rules.proofs.Keeps.{Fills, Good, becomes-alive, ends-good}

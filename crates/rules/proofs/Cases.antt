@@ -25,14 +25,13 @@ use Rattle.node.specs.Mailboxes.{messages, joined}
 use Rattle.node.specs.Nodes.{noOp}
 use Rattle.node.specs.Processes.{moved, advanced, linksTo, unlinked, gone}
 use Rattle.node.specs.Sets.{lowestPeer}
-use Rattle.node.specs.Values.{normal, kill, killed, badarg, badarith}
+use Rattle.node.specs.Values.{normal, kill, killed, badarg, badarith, isNumber, fitsInt, sameValue}
 use Rattle.node.proofs.Sets.{lowest-number}
 use Rattle.rules.specs.Answers.{Answer, refused, done, need, mailboxFull, noFit, ownerUnborn, ownerGone}
 use Rattle.rules.specs.Arrive.{joinsWith, notes, exits, takes, arrivesIn, arrives}
 use Rattle.rules.specs.Effects.{State, Effect, becomes, ends, sends}
 use Rattle.rules.specs.Receive.{Fit, search, receivesFit, receives}
 use Rattle.rules.specs.Run.{setsRegister, jumpsIf, adds, compares, toProcess, toOther, runsOp, closesTo, closes, runsLive, runsIn, runs}
-use Rattle.rules.specs.Values.{isNumber, fitsInt, sameValue}
 use Rattle.rules.proofs.All.{both}
 
 module _ (st : State) (P : Answer Effect → Type 0) where

@@ -28,7 +28,7 @@ use Rattle.rules.specs.Effects.{Effect, Sending, Birth}
 use Rattle.rules.specs.Nodes.{behavioursOf, code, process, mailbox, row}
 use Rattle.rules.specs.Run.{runs}
 use Rattle.rules.specs.Steps.{Action, run, arrive, owner, isUnborn, at, withArrival, withSending, withBirth, commit, numbered, ownerBorn, signalWaits, pairHasRoom, numberFree, incoming, decide}
-use Rattle.rules.specs.Values.{isNumber}
+use Rattle.node.specs.Values.{isNumber}
 use Rattle.rules.proofs.Accepted.{Act}
 use Rattle.rules.proofs.All.{parts, allOf-at}
 use Rattle.rules.proofs.Keeps.{SentOk, BornOk, Keeps}

@@ -15,7 +15,7 @@ use Rattle.rules.specs.Behaviours.{Instruction}
 use Rattle.rules.specs.Effects.{State, Effect, Sending, Birth, becomes, ends, sends}
 use Rattle.rules.specs.Nodes.{standing, standingSound, signalSound}
 use Rattle.rules.specs.Steps.{isUnborn}
-use Rattle.rules.specs.Values.{isNumber, valueSound}
+use Rattle.node.specs.Values.{isNumber, valueSound}
 use Rattle.rules.proofs.All.{both}
 use Rattle.rules.proofs.Living.{Unlinked, Alive, alive-sound, live-born}
 

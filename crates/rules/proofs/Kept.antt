@@ -30,7 +30,7 @@ use Rattle.rules.specs.Nodes.{Sound, sound, shaped, viewSound, view, beh
 use Rattle.rules.specs.Arrive.{arrives}
 use Rattle.rules.specs.Run.{runs}
 use Rattle.rules.specs.Steps.{Action, run, arrive, owner, at, withArrival, withSending, withBirth, commit, numbered, signalWaits, pairHasRoom, incoming, decide, step, state, playsOn, played, play}
-use Rattle.rules.specs.Values.{numbers, isNumber, fitsInt}
+use Rattle.node.specs.Values.{numbers, isNumber, fitsInt}
 use Rattle.rules.proofs.Accepted.{Act, step-goes}
 use Rattle.rules.proofs.All.{both, parts, allOf-at, allOf-any, allOf-map, made-all, all-made}
 use Rattle.rules.proofs.Firsts.{firsts-joined, firsts-left, set-read, at-read}

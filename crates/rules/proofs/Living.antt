@@ -25,7 +25,7 @@ use Rattle.node.proofs.Contents.{messages-length}
 use Rattle.rules.specs.Behaviours.{Instruction, onClause}
 use Rattle.rules.specs.Nodes.{standingIn, standing, setOf, runningSound, standingSound}
 use Rattle.rules.specs.Steps.{isUnborn}
-use Rattle.rules.specs.Values.{isNumber, fitsInt, valueSound, messageSound}
+use Rattle.node.specs.Values.{isNumber, fitsInt, valueSound, messageSound}
 use Rattle.rules.proofs.All.{both, parts, allOf-map}
 use Rattle.rules.proofs.Firsts.{firsts-joined, firsts-left}
 use Rattle.rules.proofs.Records.{number-bounds}

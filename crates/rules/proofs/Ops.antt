@@ -30,7 +30,7 @@ use Rattle.node.specs.Mailboxes.{noMessage, messages, without, sixteenSlots}
 use Rattle.node.specs.Nodes.{noOp}
 use Rattle.node.specs.Ops.{kindsOf}
 use Rattle.node.specs.Processes.{register, withRegister, withRegisters, moved, advanced, trapped, linked, unlinked, ended}
-use Rattle.node.specs.Values.{badarg, badarith, pid}
+use Rattle.node.specs.Values.{badarg, badarith, pid, isNumber, valueSound, messageSound, sameValue}
 use Rattle.node.proofs.Lists.{leave-length}
 use Rattle.rules.specs.Answers.{Answer}
 use Rattle.rules.specs.Behaviours.{Instruction, instruction, numeric, operand, operandInRange, onClause, isRecv, isClause, clauseCount, noInstruction, hasClauses, codeSound}
@@ -38,7 +38,6 @@ use Rattle.rules.specs.Effects.{State, Effect, becomes, ends, sends}
 use Rattle.rules.specs.Nodes.{signalSound, sound}
 use Rattle.rules.specs.Receive.{Fit, fits, firstClause, search, kept, receivesFit, receives}
 use Rattle.rules.specs.Run.{setsRegister, jumpsIf, toProcess, toOther, spawns, opTable, runsOp}
-use Rattle.rules.specs.Values.{isNumber, valueSound, messageSound, sameValue}
 use Rattle.rules.proofs.All.{parts, allOf-at, Each, last, _then_, each-at}
 use Rattle.rules.proofs.Cases.{jumps-any, adds-any, compares-any, toProcess-any, toOther-any, receives-any}
 use Rattle.rules.proofs.Keeps.{Fills, Good, becomes-alive, sends-alive, ends-good}

@@ -25,7 +25,7 @@ use Rattle.rules.specs.Guarantees.{Order, SoundKept, Stopped, PlayIsStep
 use Rattle.rules.specs.Nodes.{sound, Sound, Equal, view, behavioursOf, code, process}
 use Rattle.rules.specs.Arrive.{arrivesIn, arrives}
 use Rattle.rules.specs.Run.{closesTo, closes, runsIn, runs}
-use Rattle.rules.specs.Values.{numbers}
+use Rattle.node.specs.Values.{numbers}
 use Rattle.rules.specs.Steps.{Action, run, arrive, owner, isUnborn, ownerBorn, pairHasRoom, numberFree, at, withBirth, state, incoming, commit, decide, step, playsOn, played, play}
 use Rattle.rules.specs.Traces.{Runs}
 use Rattle.rules.proofs.Accepted.{Act, goes-rule, step-rule, step-goes}

@@ -24,7 +24,7 @@ use Rattle.rules.specs.Answers.{refused, done}
 use Rattle.rules.specs.Effects.{Effect}
 use Rattle.rules.specs.Nodes.{behavioursOf, code, process, mailbox, row}
 use Rattle.rules.specs.Steps.{Action, run, arrive, owner, at, commit, numbered, ownerBorn, signalWaits, pairHasRoom, numberFree, decide, ready, rule}
-use Rattle.rules.specs.Values.{isNumber}
+use Rattle.node.specs.Values.{isNumber}
 use Rattle.rules.proofs.All.{parts}
 use Rattle.rules.proofs.Living.{live-within}
 use Rattle.rules.proofs.Places.{code-passes, code-size, recv-clauses}

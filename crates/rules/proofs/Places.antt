@@ -20,7 +20,7 @@ use Rattle.node.specs.Processes.{fresh}
 use Rattle.node.proofs.Lists.{allFrom-at}
 use Rattle.rules.specs.Behaviours.{Instruction, instruction, numeric, operand, operandInRange, inRange, onClause, isRecv, isClause, clauseCount, noInstruction, hasClauses, dueNext, due, targetFree, targetsFree, wellPlaced, codeSound}
 use Rattle.rules.specs.Nodes.{standing, standingSound}
-use Rattle.rules.specs.Values.{fitsInt, valueSound}
+use Rattle.node.specs.Values.{fitsInt, valueSound}
 use Rattle.rules.proofs.All.{parts, allOf-at, map-at, allTwo-at}
 use Rattle.rules.proofs.Living.{codeOf, Alive, alive-sound, none-apart, emptied-mailed}
 

@@ -30,7 +30,7 @@ use Rattle.node.specs.Rows.{noSignal, signals, oldest, pushed, popped}
 use Rattle.node.proofs.Lists.{firsts-join, firsts-leave, firsts-behind, map-append, map-take, map-drop}
 use Rattle.rules.specs.Nodes.{Equal, sound, shaped, viewSound, setOf, standing}
 use Rattle.rules.specs.Nodes as nodes
-use Rattle.rules.specs.Values.{isNumber}
+use Rattle.node.specs.Values.{isNumber}
 
 -- ---- an array and its count, for slots and for cells
 

@@ -15,13 +15,12 @@ use Rattle.node.specs.Lists.{allOf}
 use Rattle.node.specs.Mailboxes.{sixteenSlots}
 use Rattle.node.specs.Nodes.{noOp}
 use Rattle.node.specs.Processes.{unlinked, gone}
-use Rattle.node.specs.Values.{normal}
+use Rattle.node.specs.Values.{normal, isNumber, valueSound}
 use Rattle.rules.specs.Behaviours.{Instruction, instruction, codeSound}
 use Rattle.rules.specs.Effects.{State}
 use Rattle.rules.specs.Nodes.{standingIn, standing, setOf, standingSound, sound}
 use Rattle.rules.specs.Run.{runsOp, closes, runs}
 use Rattle.rules.specs.Steps.{isUnborn}
-use Rattle.rules.specs.Values.{isNumber, valueSound}
 use Rattle.rules.proofs.All.{both, parts}
 use Rattle.rules.proofs.Cases.{closes-any, runs-any}
 use Rattle.rules.proofs.Keeps.{Fills, Good, ends-good}

@@ -12,7 +12,7 @@ use Rattle.node.specs.Lists.{allOf}
 use Rattle.rules.specs.Answers.{done}
 use Rattle.rules.specs.Steps.{Action, run, arrive, step, rule, ready, numbered}
 use Rattle.rules.specs.Suggest.{ownedBy, possible, isDone, acceptable, Suggests}
-use Rattle.rules.specs.Values.{numbers, isNumber}
+use Rattle.node.specs.Values.{numbers, isNumber}
 use Rattle.rules.proofs.All.{parts, allOf-at, allOf-flatMap, allOf-map, rising-at}
 use Rattle.rules.proofs.Records.{number-bounds}
 

@@ -13,7 +13,7 @@ use Rattle.node.specs.Ops.{kindsOf}
 use Rattle.node.specs.Processes.{register, withRegister, moved, advanced, trapped, linksTo, linked, unlinked, ended, gone}
 use Rattle.node.specs.Rows.{signals, oldest, pushed, popped}
 use Rattle.node.specs.Sets.{noPeers, bitsOf, has, withPeer, withoutPeer, lowestPeer}
-use Rattle.node.specs.Values.{intZero, normal, pid}
+use Rattle.node.specs.Values.{intZero, normal, pid, isNumber, fitsInt}
 use Rattle.rules.specs.Arrive.{arrives, exits}
 use Rattle.rules.specs.Behaviours.{operand, instruction, operandInRange, inRange, hasClauses, targetsFree, wellPlaced, codeSound}
 use Rattle.rules.specs.Calls.{Call, single, schedule, callNode, callSteps, after, accepted}
@@ -22,7 +22,6 @@ use Rattle.rules.specs.Receive.{receives, fits}
 use Rattle.rules.specs.Run.{runs, runsLive, runsOp, closes}
 use Rattle.rules.specs.Steps.{run, arrive, play, played, step, rule, ready, commit, incoming, decide, at, numbered, ownerBorn, signalWaits, pairHasRoom, numberFree}
 use Rattle.rules.specs.Traces.{owned}
-use Rattle.rules.specs.Values.{isNumber, fitsInt}
 use Rattle.rules.proofs.Sample.{opOf, int, sample, started}
 
 pub started-sound : Sound started

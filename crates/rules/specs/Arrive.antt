@@ -17,10 +17,9 @@ use Rattle.node.specs.declared.Stage.the-variants.{Unborn, Live, Closing, Gone}
 use Rattle.node.specs.declared.Value.{Value}
 use Rattle.node.specs.Mailboxes.{joined}
 use Rattle.node.specs.Processes.{linksTo, linked, unlinked}
-use Rattle.node.specs.Values.{normal, kill, killed}
+use Rattle.node.specs.Values.{normal, kill, killed, sameValue}
 use Rattle.rules.specs.Answers.{Answer, refused, done, need, ownerUnborn, mailboxFull}
 use Rattle.rules.specs.Effects.{State, Effect, becomes, ends}
-use Rattle.rules.specs.Values.{sameValue}
 
 -- process p, and message x behind the others
 abbrev pub joinsWith : State → Process → Message → Answer Effect

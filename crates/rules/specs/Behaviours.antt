@@ -13,8 +13,7 @@ use Rattle.node.specs.declared.Op.{Op}
 use Rattle.node.specs.declared.Value.{Value}
 use Rattle.node.specs.Lists.{allFrom, allOf, allTwo}
 use Rattle.node.specs.Ops.{kindsOf, opCount, recvOp, clauseOp, exactKind}
-use Rattle.node.specs.Values.{intZero}
-use Rattle.rules.specs.Values.{isNumber, valueSound}
+use Rattle.node.specs.Values.{intZero, isNumber, valueSound}
 
 -- an operand: a number or a value; a clause kind is 0 any, 1 int, 2 atom, 3 pid, 4 note, or 5 with one exact value
 pub record Operand : Type 0 where

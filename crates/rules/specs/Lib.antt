@@ -1,5 +1,4 @@
 pub mod Answers
-pub mod Values
 pub mod Behaviours
 pub mod Nodes
 pub mod Effects

@@ -31,7 +31,7 @@ use Rattle.node.specs.Nodes.{noOp, noProcess, noMailbox, noRow, pair}
 use Rattle.node.specs.Rows.{fourCells, signals}
 use Rattle.node.specs.Sets.{has}
 use Rattle.rules.specs.Behaviours.{Instruction, instruction, onClause, codeSound}
-use Rattle.rules.specs.Values.{numbers, isNumber, valueSound, messageSound}
+use Rattle.node.specs.Values.{numbers, isNumber, valueSound, messageSound}
 
 -- ---- where the parts of a node stand
 

@@ -19,7 +19,7 @@ use Rattle.node.specs.Mailboxes.{messages, without}
 use Rattle.node.specs.Processes.{withRegister, moved}
 use Rattle.rules.specs.Answers.{Answer, refused, done, noFit}
 use Rattle.rules.specs.Effects.{State, Effect}
-use Rattle.rules.specs.Values.{sameValue}
+use Rattle.node.specs.Values.{sameValue}
 
 abbrev pub isInt : Message → Bool
 isInt (Plain (Int z)) = true

@@ -19,11 +19,10 @@ use Rattle.node.specs.declared.Value.the-variants.{Int, Atom, Pid}
 use Rattle.node.specs.Nodes.{noOp}
 use Rattle.node.specs.Processes.{fresh, register, withRegister, moved, advanced, trapped, linked, unlinked, gone}
 use Rattle.node.specs.Sets.{lowestPeer}
-use Rattle.node.specs.Values.{normal, badarg, badarith, pid}
+use Rattle.node.specs.Values.{normal, badarg, badarith, pid, fitsInt, sameValue}
 use Rattle.rules.specs.Answers.{Answer, refused, done, ownerUnborn, ownerGone}
 use Rattle.rules.specs.Effects.{State, Effect, becomes, ends, sends}
 use Rattle.rules.specs.Receive.{receives}
-use Rattle.rules.specs.Values.{fitsInt, sameValue}
 
 -- "unless said, the place rises by 1"
 abbrev pub setsRegister : State → ℕ → Value → Answer Effect

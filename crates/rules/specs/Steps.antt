@@ -28,7 +28,7 @@ use Rattle.rules.specs.Arrive.{arrives}
 use Rattle.rules.specs.Effects.{State, Effect, Sending, Birth}
 use Rattle.rules.specs.Nodes.{code, process, mailbox, row, sound}
 use Rattle.rules.specs.Run.{runs}
-use Rattle.rules.specs.Values.{isNumber}
+use Rattle.node.specs.Values.{isNumber}
 
 pub data Action : Type 0 where
   run : ℕ → Action

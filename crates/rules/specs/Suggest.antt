@@ -12,7 +12,7 @@ use Rattle.node.specs.Lists.{allOf}
 use Rattle.rules.specs.Answers.{Answer, refused, done, notSound}
 use Rattle.rules.specs.Nodes.{Sound, sound}
 use Rattle.rules.specs.Steps.{Action, run, arrive, step}
-use Rattle.rules.specs.Values.{numbers}
+use Rattle.node.specs.Values.{numbers}
 
 abbrev pub ownedBy : ℕ → List Action
 ownedBy i = run i ∷ map (arrive i) numbers

@@ -12,7 +12,7 @@ use Rattle.node.specs.Nodes.{noRow}
 use Rattle.node.specs.Rows.{signals}
 use Rattle.node.proofs.Lists.{allFrom-rising, allOf-append, map-rising-at, map-rising-length}
 use Rattle.rules.specs.Nodes.{rowSound}
-use Rattle.rules.specs.Values.{numbers}
+use Rattle.node.specs.Values.{numbers}
 use Rattle.soundness.specs.Parts.{flightIn}
 
 -- tests of blocks, one behind the other

@@ -19,7 +19,7 @@ use Rattle.node.specs.Lists.{allOf}
 use Rattle.node.specs.Nodes.{noMailbox, noProcess, noRow, pair}
 use Rattle.node.specs.Rows.{signals}
 use Rattle.rules.specs.Nodes.{Running, Standing, unborn, live, closing, gone, standing}
-use Rattle.rules.specs.Values.{messageSound, numbers, valueSound}
+use Rattle.node.specs.Values.{messageSound, numbers, valueSound}
 
 unfoldable pub standingsIn : List Process → List Mailbox → List Standing
 standingsIn ps ms = map (λ i. standing (getD ps (i - 1) noProcess) (getD ms (i - 1) noMailbox)) numbers

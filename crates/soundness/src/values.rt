@@ -6,7 +6,7 @@ ghost use lib.Dec.{leb};
 ghost use lib.ListN.{length};
 ghost use Rattle.node.specs.Lists.{allOf};
 ghost use Rattle.node.specs.Mailboxes.{messages};
-ghost use Rattle.rules.specs.Values.{messageSound, valueSound};
+ghost use Rattle.node.specs.Values.{messageSound, valueSound};
 use behaviours::is_number;
 use behaviours::value_sound;
 use node::Mailbox;

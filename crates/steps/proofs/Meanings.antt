@@ -15,7 +15,7 @@ use Rattle.node.specs.declared.Step.{Step}
 use Rattle.rules.specs.Answers.{refused}
 use Rattle.rules.specs.Nodes.{Sound}
 use Rattle.rules.specs.Steps.{Action, run, arrive, meaning, numbered, step, played, play}
-use Rattle.rules.specs.Values.{isNumber}
+use Rattle.node.specs.Values.{isNumber}
 use Rattle.rules.proofs.Accepted.{step-rule}
 use Rattle.rules.proofs.Paths.{rule-20}
 

@@ -5,7 +5,7 @@ use Rattle.node.specs.Nodes.{noOp}
 use Rattle.rules.specs.Behaviours.{codeSound}
 use Rattle.behaviours.proofs.Codes.{lands-at, lands-free}
 use Rattle.behaviours.proofs.Pass.{Pass, pass-start, pass-end, size-stop, op-stop, op-barred, op-more, due-stop, next-code}
-use Rattle.behaviours.proofs.Tests.{failed, passed, within-is}
+use Rattle.node.proofs.Tests.{failed, passed, within-is}
 use Rattle.behaviours.specs.Codes.{codesIn}
 use borrow.Author.Needs.{needs}
 use borrow.Author.Tests.{eq-eqb}

@@ -5,7 +5,7 @@ use borrow.Author.Needs.{needs}
 use borrow.Author.Tests.{ne-eqb, le-leb, lt-leb}
 use Rattle.behaviours.proofs.clause_kind_sound.Statement.{statement}
 use Rattle.behaviours.proofs.clause_kind_sound.Tie as tie
-use Rattle.behaviours.proofs.Values.{int-fits}
+use Rattle.node.proofs.Values.{int-fits}
 
 returns : tie.Need-returns
 returns c = rw (lt-leb _ _ (c .if1 .taken))

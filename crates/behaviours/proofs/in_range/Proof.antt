@@ -1,9 +1,9 @@
 -- `in_range` gives `inRange`: at each number, the operands that the table has there. Assumes nothing.
 use Rattle.node.specs.Ops.{kindsOf}
 use Rattle.rules.specs.Behaviours.{operand, operandInRange}
-use Rattle.rules.specs.Values.{valueSound}
+use Rattle.node.specs.Values.{valueSound}
 use Rattle.behaviours.proofs.Operands.{range-at, range-past}
-use Rattle.behaviours.proofs.Tests.{failed, passed}
+use Rattle.node.proofs.Tests.{failed, passed}
 use borrow.Author.Needs.{needs}
 use lib.Dec.{leb}
 use mathlib.Core.Bool.{true, _&&_, and-assoc, and-true}

@@ -1,6 +1,6 @@
 -- `op_sound` tests the range first, then that the op is a clause exactly where one is due. Assumes nothing.
 use Rattle.rules.specs.Behaviours.{instruction}
-use Rattle.behaviours.proofs.Tests.{failed, passed}
+use Rattle.node.proofs.Tests.{failed, passed}
 use Rattle.behaviours.specs.Codes.{placedBy}
 use borrow.Author.Needs.{needs}
 use borrow.Author.Tests.{eq-eqb, ne-eqb}

@@ -1,5 +1,5 @@
 -- `register_and_numbers` tests the register, the behaviour and the process in this order. Assumes nothing.
-use Rattle.behaviours.proofs.Tests.{failed, passed}
+use Rattle.node.proofs.Tests.{failed, passed}
 use borrow.Author.Needs.{needs}
 use borrow.Author.Tests.{le-leb, lt-leb}
 use Rattle.behaviours.proofs.register_and_numbers.Statement.{statement}

@@ -1,6 +1,6 @@
 -- `registers_and_place` tests the registers first, then the place. Assumes nothing.
 use borrow.Author.Needs.{needs}
-use Rattle.behaviours.proofs.Tests.{failed, passed}
+use Rattle.node.proofs.Tests.{failed, passed}
 use Rattle.behaviours.proofs.registers_and_place.Statement.{statement}
 use Rattle.behaviours.proofs.registers_and_place.Tie as tie
 

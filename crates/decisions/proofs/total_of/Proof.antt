@@ -6,7 +6,7 @@ use mathlib.Core.Path.{_≡_}
 use mir.Syntax.{w32}
 use mir.ValLaws.{toZ-ofZ}
 use Rattle.decisions.proofs.Sums.{widens, sum-fits, narrows, sum-is, wide-is, below-fits, above-fits, within-fits}
-use Rattle.rules.specs.Values.{least, greatest}
+use Rattle.node.specs.Values.{least, greatest}
 use Rattle.decisions.proofs.total_of.Statement.{statement}
 use Rattle.decisions.proofs.total_of.Tie as tie
 

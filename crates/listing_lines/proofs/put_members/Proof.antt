@@ -5,7 +5,7 @@ use native.Mathlib.Omega.{arith}
 use borrow.Author.Needs.{needs}
 use lib.ListN.{drop}
 use Rattle.rules.specs.Nodes.{setOf}
-use Rattle.rules.specs.Values.{numbers}
+use Rattle.node.specs.Values.{numbers}
 use Rattle.text.proofs.Writing.{Left, left-all}
 use Rattle.listing_lines.specs.Lines.{members, withCommas}
 use Rattle.listing_lines.proofs.Laws.{commaed, left-member, left-members-end}

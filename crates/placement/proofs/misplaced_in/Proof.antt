@@ -10,7 +10,7 @@ use Rattle.rules.specs.Behaviours.{due, instruction}
 use Rattle.behaviours.specs.Codes.{codeIn}
 use Rattle.behaviours.proofs.Clauses.{turn-due}
 use Rattle.behaviours.proofs.Codes.{code-length}
-use Rattle.behaviours.proofs.Tests.{failed, passed}
+use Rattle.node.proofs.Tests.{failed, passed}
 use Rattle.placement.specs.Misplaced.{misplacedIn}
 use Rattle.placement.proofs.Laws.{op-is, in-begin, in-stop, in-more, in-end}
 use Rattle.placement.proofs.misplaced_in.Statement.{statement}

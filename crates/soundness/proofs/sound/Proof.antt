@@ -6,7 +6,7 @@ use Rattle.node.specs.Lists.{allFrom}
 use Rattle.node.specs.Nodes.{noRow}
 use Rattle.node.specs.Rows.{signals}
 use Rattle.rules.specs.Nodes.{rowSound, sound as soundOf}
-use Rattle.behaviours.proofs.Tests.{failed, passed}
+use Rattle.node.proofs.Tests.{failed, passed}
 use Rattle.soundness.proofs.Blocks.{flight-rows, row-empty}
 use Rattle.soundness.proofs.Parts.{shaped-node, sound-by}
 use borrow.Author.Needs.{needs}

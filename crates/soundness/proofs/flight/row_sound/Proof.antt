@@ -5,7 +5,7 @@ use Rattle.node.proofs.Lists.{all-more, all-stop, all-end, allOf-from}
 use Rattle.node.specs.Lists.{allFrom, allOf}
 use Rattle.node.specs.Rows.{signals, noSignal}
 use Rattle.rules.specs.Nodes.{signalSound, rowSound}
-use Rattle.behaviours.proofs.Tests.{failed, passed}
+use Rattle.node.proofs.Tests.{failed, passed}
 use borrow.Author.Needs.{needs}
 use borrow.Author.Tests.{le-leb, lt-leb}
 use lib.ListN.{length, drop}

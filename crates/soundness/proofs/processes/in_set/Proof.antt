@@ -1,6 +1,6 @@
 -- `in_set` gives `setOf`. Assumes nothing.
 use Rattle.rules.specs.Nodes.{setOf}
-use Rattle.behaviours.proofs.Tests.{failed, passed}
+use Rattle.node.proofs.Tests.{failed, passed}
 use borrow.Author.Needs.{needs}
 use Rattle.soundness.proofs.processes.in_set.Statement.{statement}
 use Rattle.soundness.proofs.processes.in_set.Tie as tie

@@ -1,6 +1,6 @@
 -- `process_sound` gives `standingTold`, stage by stage. Assumes nothing.
 use Rattle.soundness.proofs.Parts.{told-in}
-use Rattle.behaviours.proofs.Tests.{failed, passed}
+use Rattle.node.proofs.Tests.{failed, passed}
 use Rattle.soundness.specs.Parts.{lengthIn}
 use borrow.Author.Needs.{needs}
 use lib.Dec.{eqb}

@@ -5,7 +5,7 @@ use Rattle.node.specs.Lists.{allFrom}
 use Rattle.node.specs.Nodes.{noOp}
 use Rattle.rules.specs.Nodes.{gone, standingSound}
 use Rattle.soundness.proofs.Parts.{standings-length, past-ops, told-at}
-use Rattle.behaviours.proofs.Tests.{failed, passed}
+use Rattle.node.proofs.Tests.{failed, passed}
 use Rattle.behaviours.specs.Codes.{codesIn}
 use Rattle.soundness.specs.Parts.{standingsIn}
 use borrow.Author.Needs.{needs}

@@ -1,5 +1,5 @@
 -- `running_sound` gives `runningTold`: its tests are made in the same order. Assumes nothing.
-use Rattle.behaviours.proofs.Tests.{failed, passed}
+use Rattle.node.proofs.Tests.{failed, passed}
 use Rattle.soundness.specs.Parts.{runningTold}
 use borrow.Author.Needs.{needs}
 use borrow.Author.Tests.{eq-eqb, ne-eqb, le-leb, lt-leb}

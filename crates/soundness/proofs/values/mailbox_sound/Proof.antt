@@ -4,8 +4,8 @@ use Rattle.node.proofs.Contents.{messages-length, messages-at}
 use Rattle.node.proofs.Lists.{all-more, all-stop, all-end, allOf-from}
 use Rattle.node.specs.Lists.{allFrom, allOf}
 use Rattle.node.specs.Mailboxes.{messages, noMessage}
-use Rattle.rules.specs.Values.{messageSound}
-use Rattle.behaviours.proofs.Tests.{failed, passed}
+use Rattle.node.specs.Values.{messageSound}
+use Rattle.node.proofs.Tests.{failed, passed}
 use borrow.Author.Needs.{needs}
 use borrow.Author.Tests.{le-leb, lt-leb}
 use lib.ListN.{length, drop}

@@ -1,5 +1,5 @@
 -- `message_sound` gives `messageSound`. Assumes nothing.
-use Rattle.behaviours.proofs.Tests.{failed, passed}
+use Rattle.node.proofs.Tests.{failed, passed}
 use borrow.Author.Needs.{needs}
 use Rattle.soundness.proofs.values.message_sound.Statement.{statement}
 use Rattle.soundness.proofs.values.message_sound.Tie as tie

@@ -1,5 +1,5 @@
 -- `registers_sound` tests the four registers in their order. Assumes nothing.
-use Rattle.behaviours.proofs.Tests.{failed, passed}
+use Rattle.node.proofs.Tests.{failed, passed}
 use borrow.Author.Needs.{needs}
 use mathlib.Core.Bool.{and-true}
 use Rattle.soundness.proofs.values.registers_sound.Statement.{statement}

@@ -7,7 +7,7 @@ use lib.IntN.{ℤ, pos, negsuc}
 use mir.Syntax.{Width}
 use mir.Val.{SFits, ofZ, toZ}
 use mir.ValLaws.{toZ-ofZ}
-use Rattle.rules.specs.Values.{sameInt}
+use Rattle.node.specs.Values.{sameInt}
 
 same-refl : (x : ℤ) → sameInt x x ≡ true
 same-refl (pos n) = eq-eqb n n refl

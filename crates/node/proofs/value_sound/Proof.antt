@@ -2,9 +2,9 @@
 use mathlib.Core.Path.{sym}
 use borrow.Author.Needs.{needs}
 use borrow.Author.Tests.{le-leb}
-use Rattle.behaviours.proofs.value_sound.Statement.{statement}
-use Rattle.behaviours.proofs.value_sound.Tie as tie
-use Rattle.behaviours.proofs.Values.{int-fits}
+use Rattle.node.proofs.value_sound.Statement.{statement}
+use Rattle.node.proofs.value_sound.Tie as tie
+use Rattle.node.proofs.Values.{int-fits}
 
 enum-known-v : tie.Need-enum-known-v
 enum-known-v c = search needs

@@ -1,8 +1,8 @@
 -- `is_number` gives `isNumber`. Assumes nothing.
-use Rattle.rules.specs.Values.{isNumber}
+use Rattle.node.specs.Values.{isNumber}
 use borrow.Author.Needs.{needs}
-use Rattle.behaviours.proofs.is_number.Statement.{statement}
-use Rattle.behaviours.proofs.is_number.Tie as tie
+use Rattle.node.proofs.is_number.Statement.{statement}
+use Rattle.node.proofs.is_number.Tie as tie
 
 within-requires : tie.Need-within-requires
 within-requires c κs = search needs

@@ -1,7 +1,7 @@
 -- `within` makes its two comparisons. Assumes nothing.
 use borrow.Author.Tests.{le-leb, lt-leb}
-use Rattle.behaviours.proofs.within.Statement.{statement}
-use Rattle.behaviours.proofs.within.Tie as tie
+use Rattle.node.proofs.within.Statement.{statement}
+use Rattle.node.proofs.within.Tie as tie
 
 returns : tie.Need-returns
 returns c = rw (lt-leb _ _ (c .if1 .taken))

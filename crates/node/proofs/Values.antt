@@ -8,7 +8,7 @@ use lib.Signed.{mag}
 use borrow.Author.Tests.{le-leb}
 use mir.Syntax.{w32}
 use mir.Val.{SFits}
-use Rattle.rules.specs.Values.{fitsInt}
+use Rattle.node.specs.Values.{fitsInt}
 
 pub int-fits : (z : ℤ) → SFits w32 z → fitsInt z ≡ true
 unfolding fitsInt
