@@ -1,4 +1,4 @@
--- What a record tells by its type: how long its arrays are, and that its counts and places are bytes. Assumes nothing.
+-- What a record tells by its type: how long its arrays are, and that its counts are bytes. Assumes nothing.
 use mathlib.Core.Bool.{Bool, So, and-eq-true-iff}
 use mathlib.Core.List.{List, [], _∷_, map}
 use mathlib.Core.Path.{_≡_, refl, sym, _∙_}
@@ -11,14 +11,12 @@ use lib.ListN.{length, length-map}
 use mir.Val.{Val}
 use Rattle.node.specs.declared.Mailbox.{Mailbox}
 use Rattle.node.specs.declared.Node.{Node}
-use Rattle.node.specs.declared.Process.{Process}
 use Rattle.node.specs.declared.Row.{Row}
 use Rattle.node.specs.Lists.{allOf}
 use Rattle.node.specs.Mailboxes.{sixteenSlots}
 use Rattle.node.specs.Rows.{fourCells}
 use Rattle.node.proofs.Mailbox.{the-type as mailbox-type}
 use Rattle.node.proofs.Node.{the-type as node-type}
-use Rattle.node.proofs.Process.{the-type as process-type}
 use Rattle.node.proofs.Row.{the-type as row-type}
 
 -- a test that each value of a struct type passes by its type is passed by all elements of an array of them
@@ -27,12 +25,6 @@ pub each-passes : (T : Declared) (f : T .D → Bool) → ((x : T .D) (vs : List 
 each-passes T f h [] us g = refl
 each-passes T f h (x ∷ xs) [] g = absurd g
 each-passes T f h (x ∷ xs) (u ∷ us) g = and-eq-true-iff (f x) (allOf f xs) .1 (h x _ (g .0), each-passes T f h xs us (g .1))
-
-pub record SizedProcess (p : Process) : Type 0 where
-  pub place : p .place < 256
-
-pub sized-process : (p : Process) {vs : List Val} → shadow (row process-type .own p vs) → SizedProcess p
-sized-process p g = record { place = g .1 .1 .1 .1 .0 .1 }
 
 pub record SizedMailbox (m : Mailbox) : Type 0 where
   pub slots : length (m .slots) ≡ 16

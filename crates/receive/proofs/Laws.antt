@@ -8,25 +8,20 @@ use Prim.Native.Nat.{ℕ, zero, suc, _+_, _<_, _≤_, min}
 use native.Mathlib.Nat.{zero-add}
 use native.Mathlib.Numerals.{add-one}
 use native.Mathlib.Omega.{arith}
-use borrow.Author.Tests.{leb-true, leb-false, ne-eqb}
-use lib.Dec.{eqb, leb}
-use lib.IntN.{ℤ}
-use lib.ListN.{length, getD, take, drop, length-take, drop-of-length-le, List·getD-eq-default}
+use borrow.Author.Tests.{ne-eqb}
+use lib.Dec.{eqb}
+use lib.ListN.{length, getD, take, drop, length-take, drop-of-length-le}
 use lib.Seq.{drop-cons, getD-take}
 use Rattle.node.specs.declared.Mailbox.{Mailbox}
 use Rattle.node.specs.declared.Message.{Message}
-use Rattle.node.specs.declared.Message.the-variants.{Plain, Note}
 use Rattle.node.specs.declared.Op.{Op}
-use Rattle.node.specs.declared.ProcessNumber.{ProcessNumber}
-use Rattle.node.specs.declared.Value.{Value}
-use Rattle.node.specs.declared.Value.the-variants.{Int, Atom, Pid}
 use Rattle.node.specs.Mailboxes.{noMessage, messages}
 use Rattle.node.specs.Nodes.{noOp}
+use Rattle.node.specs.Values.{exactKind, anyKind, messageKind}
 use Rattle.node.proofs.Contents.{messages-at, messages-length}
 use Rattle.rules.specs.Answers.{Answer, refused, done, noFit}
 use Rattle.rules.specs.Effects.{State}
-use Rattle.rules.specs.Receive.{Fit, isInt, isAtom, isPid, isNote, isValue, fits, firstClause, search, receivesFit}
-use Rattle.node.specs.Values.{sameValue}
+use Rattle.rules.specs.Receive.{Fit, isValue, fits, firstClause, search, receivesFit}
 use Rattle.receive.specs.Answers.{Indices, firstAt, searchAt, fitAt, received}
 use Rattle.receive.specs.declared.Received.{Received}
 
@@ -119,43 +114,15 @@ module _ (st : State) (g : Received) where
 
 -- ---- a clause's kind: one law for each answer of `fits`
 
-kind-at : (j k : ℕ) (d : Bool) → (k ≡ 0 → ⊥) → k ≤ 4 → eqb k j ≡ getD (true ∷ eqb 1 j ∷ eqb 2 j ∷ eqb 3 j ∷ eqb 4 j ∷ []) k d
-kind-at j zero d h g = absurd (h refl)
-kind-at j (suc zero) d h g = refl
-kind-at j (suc (suc zero)) d h g = refl
-kind-at j (suc (suc (suc zero))) d h g = refl
-kind-at j (suc (suc (suc (suc zero)))) d h g = refl
-kind-at j (suc (suc (suc (suc (suc k))))) d h g = absurd (omega arith)
-
-module _ (c : Op) where
-  pub fits-any : (m : Message) → c .small ≡ 0 → true ≡ fits c m
+module _ (c : Op) (m : Message) where
+  pub fits-exact : c .small ≡ exactKind → isValue (c .value) m ≡ fits c m
   unfolding fits
-  fits-any m h = rw h
+  fits-exact h = rw h
 
-  pub fits-int : (z : ℤ) → (c .small ≡ 0 → ⊥) → c .small ≤ 4 → eqb (c .small) 1 ≡ fits c (Plain (Int z))
+  pub fits-any : c .small ≡ anyKind → true ≡ fits c m
   unfolding fits
-  fits-int z h g = kind-at 1 (c .small) _ h g
+  fits-any h = rw h
 
-  pub fits-atom : (a : ℕ) → (c .small ≡ 0 → ⊥) → c .small ≤ 4 → eqb (c .small) 2 ≡ fits c (Plain (Atom a))
+  pub fits-kind : (c .small ≡ exactKind → ⊥) → (c .small ≡ anyKind → ⊥) → eqb (c .small) (messageKind m) ≡ fits c m
   unfolding fits
-  fits-atom a h g = kind-at 2 (c .small) _ h g
-
-  pub fits-pid : (j : ProcessNumber) → (c .small ≡ 0 → ⊥) → c .small ≤ 4 → eqb (c .small) 3 ≡ fits c (Plain (Pid j))
-  unfolding fits
-  fits-pid j h g = kind-at 3 (c .small) _ h g
-
-  pub fits-exact : (v : Value) → 4 < c .small → sameValue v (c .value) ≡ fits c (Plain v)
-  unfolding fits
-  fits-exact v h = sym (List·getD-eq-default (true ∷ isInt (Plain v) ∷ isAtom (Plain v) ∷ isPid (Plain v) ∷ isNote (Plain v) ∷ []) (isValue (c .value) (Plain v)) {n = c .small} h)
-
-  -- a note is never an exact value
-  pub fits-note : (j : ProcessNumber) (v : Value) → (c .small ≡ 0 → ⊥) → eqb (c .small) 4 ≡ fits c (Note j v)
-  unfolding fits
-  fits-note j v h = go (leb (c .small) 4) refl
-    where
-      go : (b : Bool) → leb (c .small) 4 ≡ b → eqb (c .small) 4 ≡ getD (true ∷ false ∷ false ∷ false ∷ true ∷ []) (c .small) false
-      go true e = kind-at 4 (c .small) false h (leb-true (c .small) 4 e)
-      go false e =
-          let l : 5 ≤ c .small = leb-false (c .small) 4 e in
-          let n : c .small ≡ 4 → ⊥ = λ q. omega arith in
-          ne-eqb (c .small) 4 n ∙ sym (List·getD-eq-default (true ∷ false ∷ false ∷ false ∷ true ∷ []) false {n = c .small} l)
+  fits-kind h g = rw (ne-eqb (c .small) exactKind h, ne-eqb (c .small) anyKind g)

@@ -4,15 +4,17 @@ ghost use mathlib.Core.Path.{_≡_};
 ghost use lib.ListN.{take, getD};
 ghost use Rattle.node.specs.Mailboxes.{messages};
 ghost use Rattle.node.specs.Nodes.{noOp};
-ghost use Rattle.node.specs.Values.{sameValue};
-ghost use Rattle.rules.specs.Receive.{fits, search, kept};
+ghost use Rattle.rules.specs.Receive.{isValue, fits, search, withMessage};
 ghost use Rattle.receive.specs.Answers.{searchAt, foundOf, stateOf, fitAt, received};
+use node::ANY;
+use node::EXACT;
 use node::Mailbox;
 use node::Message;
 use node::NO_FIT;
 use node::Op;
 use node::Process;
 use node::Value;
+use node::same_value;
 
 // What a search finds: the index of the message and that of the clause that takes it, or nothing.
 pub enum Found {
@@ -80,28 +82,29 @@ pub fn fits(c: Op, m: Message) -> bool
     ensures { λ r. ⌜ r ≡ fits c m ⌝ }
 {
     let kind = c.small;
-    if kind == 0 {
+    if kind == EXACT {
+        let w = c.value;
+        return is_value(w, m);
+    }
+    if kind == ANY {
         return true;
     }
+    kind == m.kind()
+}
+
+// Message m is value w; a note is none.
+fn is_value(w: Value, m: Message) -> bool
+    ensures { λ r. ⌜ r ≡ isValue w m ⌝ }
+{
     match m {
-        Message::Note(_, _) => kind == 4,
-        Message::Plain(v) => {
-            if 4 < kind {
-                let w = c.value;
-                return same_value(v, w);
-            }
-            match v {
-                Value::Int(_) => kind == 1,
-                Value::Atom(_) => kind == 2,
-                Value::Pid(_) => kind == 3,
-            }
-        }
+        Message::Plain(v) => same_value(v, w),
+        Message::Note(_, _) => false,
     }
 }
 
 // Process p with message m in the registers that clause c names.
-fn keep(p: Process, c: Op, m: Message) -> Process
-    ensures { λ r. ⌜ r ≡ kept p c m ⌝ }
+fn with_message(p: Process, c: Op, m: Message) -> Process
+    ensures { λ r. ⌜ r ≡ withMessage p c m ⌝ }
 {
     match m {
         Message::Plain(v) => p.with_register(c.r, v),
@@ -115,7 +118,7 @@ fn taken(p: Process, mail: Mailbox, clauses: [Op; 8], i: u8, k: u8) -> Received
 {
     let m = mail.message_at(i);
     let c = clause_at(clauses, k);
-    let next = keep(p, c, m).moved(c.target);
+    let next = with_message(p, c, m).moved(c.target);
     let rest = mail.without(i);
     Received {
         refusal: 0,

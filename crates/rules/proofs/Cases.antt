@@ -2,8 +2,8 @@
 -- what is to be shown of every op or signal is said of each case once. Assumes nothing.
 use mathlib.Core.Bool.{Bool, true, false, cond, not, So, _&&_}
 use mathlib.Core.List.{List}
-use mathlib.Core.Option.{Option, none, some}
-use mathlib.Core.Path.{_≡_, refl}
+use mathlib.Core.Option.{Option, none, some, Option·none-ne-some, Option·some-injective}
+use mathlib.Core.Path.{_≡_, refl, ap}
 use Prim.Native.Nat.{ℕ, zero, suc, _+_}
 use native.Mathlib.Omega.{arith}
 use borrow.Author.Tests.{le-leb}
@@ -14,7 +14,6 @@ use lib.Signed.{ltZ}
 use Rattle.node.specs.declared.Message.{Message}
 use Rattle.node.specs.declared.Op.{Op}
 use Rattle.node.specs.declared.Process.{Process}
-use Rattle.node.specs.declared.ProcessNumber.{ProcessNumber}
 use Rattle.node.specs.declared.Signal.{Signal}
 use Rattle.node.specs.declared.Signal.the-variants.{Exit}
 use Rattle.node.specs.declared.Stage.{Stage}
@@ -25,14 +24,20 @@ use Rattle.node.specs.Mailboxes.{messages, joined}
 use Rattle.node.specs.Nodes.{noOp}
 use Rattle.node.specs.Processes.{moved, advanced, linksTo, unlinked, gone}
 use Rattle.node.specs.Sets.{lowestPeer}
-use Rattle.node.specs.Values.{normal, kill, killed, badarg, badarith, isNumber, fitsInt, sameValue}
+use Rattle.node.specs.Values.{normal, kill, killed, badarg, badarith, pid, isNumber, fitsInt, sameValue}
 use Rattle.node.proofs.Sets.{lowest-number}
 use Rattle.rules.specs.Answers.{Answer, refused, done, need, mailboxFull, noFit, ownerUnborn, ownerGone}
 use Rattle.rules.specs.Arrive.{joinsWith, notes, exits, takes, arrivesIn, arrives}
 use Rattle.rules.specs.Effects.{State, Effect, becomes, ends, sends}
 use Rattle.rules.specs.Receive.{Fit, search, receivesFit, receives}
-use Rattle.rules.specs.Run.{setsRegister, jumpsIf, adds, compares, toProcess, toOther, runsOp, closesTo, closes, runsLive, runsIn, runs}
+use Rattle.rules.specs.Run.{setsRegister, jumpsIf, adds, compares, processIn, toProcess, sendsTo, toOther, runsOp, closesTo, closes, runsLive, runsIn, runs}
 use Rattle.rules.proofs.All.{both}
+
+-- a value that names process j is its number
+named : (v : Value) (j : ℕ) → processIn v ≡ some j → v ≡ pid j
+named (Int z) j e = absurd (Option·none-ne-some j e)
+named (Atom a) j e = absurd (Option·none-ne-some j e)
+named (Pid k) j e = ap pid (Option·some-injective (k .0) j e)
 
 module _ (st : State) (P : Answer Effect → Type 0) where
   -- ---- the ops
@@ -59,15 +64,17 @@ module _ (st : State) (P : Answer Effect → Type 0) where
   compares-any t h g (Atom x) w = g
   compares-any t h g (Pid x) w = g
 
-  pub toProcess-any : (f : ℕ → Answer Effect) (v : Value) → ((j : ProcessNumber) → v ≡ Pid j → P (f (j .0))) → P (ends st badarg) → P (toProcess st v f)
-  toProcess-any f (Int x) h g = g
-  toProcess-any f (Atom x) h g = g
-  toProcess-any f (Pid j) h g = h j refl
-
-  pub toOther-any : (i j : ℕ) (x : Answer Effect) → P (becomes st (advanced (st .process))) → (eqb j i ≡ false → P x) → P (toOther i st j x)
-  toOther-any i j x g h = go (eqb j i) refl
+  pub sendsTo-any : (v : Value) (q : ℕ → Process) (x : Signal) → ((j : ℕ) → v ≡ pid j → P (sends st (advanced (q j)) j x)) → P (ends st badarg) → P (sendsTo st v q x)
+  sendsTo-any v q x h g = go (processIn v) refl
     where
-      go : (b : Bool) → eqb j i ≡ b → P (cond b (becomes st (advanced (st .process))) x)
+      go : (o : Option ℕ) → processIn v ≡ o → P (toProcess st o (λ j. sends st (advanced (q j)) j x))
+      go none e = g
+      go (some j) e = h j (named v j e)
+
+  pub toOther-any : (i : ℕ) (v : Value) (x : Answer Effect) → P (becomes st (advanced (st .process))) → (sameValue v (pid i) ≡ false → P x) → P (toOther i st v x)
+  toOther-any i v x g h = go (sameValue v (pid i)) refl
+    where
+      go : (b : Bool) → sameValue v (pid i) ≡ b → P (cond b (becomes st (advanced (st .process))) x)
       go true e = g
       go false e = h e
 

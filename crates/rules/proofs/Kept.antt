@@ -130,9 +130,6 @@ module _ (j i : ℕ) where
       let all : So (allOf (signalSound j i) (signals r)) = rw (cells-sound r) g in
       both few all
 
-  pub row-count : (r : Row) → RowOk r → r .count ≤ 4
-  row-count r h = row-parts r h .0
-
   -- each of its signals is sound
   pub row-signals : (r : Row) → RowOk r → So (allOf (signalSound j i) (signals r))
   unfolding rowSound

@@ -20,7 +20,6 @@ use Rattle.node.specs.declared.Message.{Message}
 use Rattle.node.specs.declared.Message.the-variants.{Plain, Note}
 use Rattle.node.specs.declared.Op.{Op}
 use Rattle.node.specs.declared.Process.{Process}
-use Rattle.node.specs.declared.ProcessNumber.{ProcessNumber}
 use Rattle.node.specs.declared.Signal.{Signal}
 use Rattle.node.specs.declared.Signal.the-variants.{Msg, Exit, Link, Unlink}
 use Rattle.node.specs.declared.Value.{Value}
@@ -34,12 +33,12 @@ use Rattle.node.specs.Values.{badarg, badarith, pid, isNumber, valueSound, mess
 use Rattle.node.proofs.Lists.{leave-length}
 use Rattle.rules.specs.Answers.{Answer}
 use Rattle.rules.specs.Behaviours.{Instruction, instruction, numeric, operand, operandInRange, onClause, isRecv, isClause, clauseCount, noInstruction, hasClauses, codeSound}
-use Rattle.rules.specs.Effects.{State, Effect, becomes, ends, sends}
+use Rattle.rules.specs.Effects.{State, Effect, becomes, ends}
 use Rattle.rules.specs.Nodes.{signalSound, sound}
-use Rattle.rules.specs.Receive.{Fit, fits, firstClause, search, kept, receivesFit, receives}
-use Rattle.rules.specs.Run.{setsRegister, jumpsIf, toProcess, toOther, spawns, opTable, runsOp}
+use Rattle.rules.specs.Receive.{Fit, fits, firstClause, search, withMessage, receivesFit, receives}
+use Rattle.rules.specs.Run.{setsRegister, jumpsIf, sendsTo, toOther, spawns, opTable, runsOp}
 use Rattle.rules.proofs.All.{parts, allOf-at, Each, last, _then_, each-at}
-use Rattle.rules.proofs.Cases.{jumps-any, adds-any, compares-any, toProcess-any, toOther-any, receives-any}
+use Rattle.rules.proofs.Cases.{jumps-any, adds-any, compares-any, sendsTo-any, toOther-any, receives-any}
 use Rattle.rules.proofs.Keeps.{Fills, Good, becomes-alive, sends-alive, ends-good}
 use Rattle.rules.proofs.Living.{codeOf, Valued, Mailed, Alive, alive, alive-sound, live-born, without-mailed, register-sound, withRegister-keeps, moved-alive, registers-alive, trapped-alive, linked-alive, unlinked-alive, mailed-alive}
 use Rattle.rules.proofs.Places.{code-short, next-off, op-at, facts, in-range, target-11, target-12, target-13, target-14, fresh-sound}
@@ -177,9 +176,9 @@ module _ (codes : List (List Instruction)) (i : ℕ) (ops : List Op) (st : State
         let q = withRegisters p b c d e in
         moved-alive codes i q m (mailed-alive codes i q (st .mail) (registers-alive codes i p (st .mail) (g .alive) b c d e w) m mail) k (rw (g .same) within) (rw (g .same) off)
 
-    kept-alive : (c : Op) (x : Message) → So (messageSound x) → Alive codes i (moved (kept p c x) k) m
-    kept-alive c (Plain v) h = withRegister-keeps p (g .alive .valued) (λ q. Alive codes i (moved q k) m) moved-with (c .r) v h
-    kept-alive c (Note j v) h =
+    withMessage-alive : (c : Op) (x : Message) → So (messageSound x) → Alive codes i (moved (withMessage p c x) k) m
+    withMessage-alive c (Plain v) h = withRegister-keeps p (g .alive .valued) (λ q. Alive codes i (moved q k) m) moved-with (c .r) v h
+    withMessage-alive c (Note j v) h =
         let w = parts (isNumber (j .0)) (valueSound v) h in
         withRegister-keeps p (g .alive .valued) (λ q. Alive codes i (moved (withRegister q (c .s) v) k) m)
         (λ b d e f u. withRegister-keeps (withRegisters p b d e f) u (λ q. Alive codes i (moved q k) m) moved-with (c .s) v (w .1))
@@ -189,7 +188,7 @@ module _ (codes : List (List Instruction)) (i : ℕ) (ops : List Op) (st : State
   fit-good e f q =
       let h : FitOk OnTarget (some f) = subst (FitOk OnTarget) q (search-fit OnTarget (take (o .small) (drop (t + 1) ops)) (clause-target e) 0 (messages (st .mail)) (g .alive .mailed .sound)) in
       let m = without (st .mail) (f .index) in
-      let next = kept-alive m (without-mailed (st .mail) (g .alive .mailed) (f .index)) (f .clause .target) (h .0 .0) (h .0 .1) (f .clause) (f .message) (h .1) in
+      let next = withMessage-alive m (without-mailed (st .mail) (g .alive .mailed) (f .index)) (f .clause .target) (h .0 .0) (h .0 .1) (f .clause) (f .message) (h .1) in
       record { sound = alive-sound codes i _ m next; born = live-born codes i _ m next; sent = tt; birth = tt; apart = tt }
 
   -- ---- spawn
@@ -273,59 +272,53 @@ module _ (code : List Op) (i : ℕ) (st : State) (o : Op) where
   abbrev Kin : Process → List (List Instruction) → Type 0
   Kin q codes = Alive codes i q (st .mail) × (q .behaviour .0 ≡ st .process .behaviour .0) × (q .place ≡ st .process .place)
 
-  -- a signal to j, from the process as q, whose place rises
-  sends-shown : (k : ℕ) → eqb k 10 ≡ false → (q : Process) (j : ℕ) (x : Signal) →
-      If k (λ c. So (isNumber j) × So (signalSound i j x)) → If k (Kin q) → Shown k (sends st (advanced q) j x)
-  unfolding advanced
-  sends-shown k h q j x n a = record {
-    told = tt;
-    full = λ s. s;
-    good = λ codes g e.
-        let w = a codes g e in
-        let u = n codes g e in
-        sends-alive codes i st _ j x (advanced-alive codes i code st o g (other-op codes i code st o g k e h) q (w .0) (w .1) (w .2)) (u .0) (u .1);
-  }
-
   abbrev r : Value
   r = register (st .process) (o .r)
 
   abbrev s : Value
   s = register (st .process) (o .s)
 
-  -- a register's value is sound, and a process number in it is one
   value-sound : (k n : ℕ) → If k (λ c. So (valueSound (register (st .process) n)))
   value-sound k n codes g e = register-good codes i code st o g n
 
-  pid-sound : (k : ℕ) (j : ProcessNumber) → r ≡ Pid j → If k (λ c. So (isNumber (j .0)))
+  -- a process number in a register is one
+  pid-sound : (k j : ℕ) → r ≡ pid j → If k (λ c. So (isNumber j))
   pid-sound k j q codes g e = subst (λ (v : Value). So (valueSound v)) q (value-sound k (o .r) codes g e)
 
-  send-shown : (k : ℕ) → eqb k 10 ≡ false → (x : Signal) → ((j : ℕ) → If k (λ c. So (signalSound i j x))) → Shown k (toProcess st r (λ j. sends st (advanced (st .process)) j x))
-  send-shown k h x f =
-      toProcess-any st (Shown k) (λ j. sends st (advanced (st .process)) j x) r
-      (λ j q. sends-shown k h (st .process) (j .0) x (λ c g e. (pid-sound k j q c g e, f (j .0) c g e)) (λ c g e. (g .alive, refl, refl)))
+  -- a signal to the process j that r names, from the process as q j, whose place rises
+  sends-shown : (k : ℕ) → eqb k 10 ≡ false → (q : ℕ → Process) (x : Signal) → ((j : ℕ) → r ≡ pid j → If k (λ c. So (signalSound i j x) × Kin (q j) c)) → Shown k (sendsTo st r q x)
+  unfolding advanced
+  sends-shown k h q x f =
+      sendsTo-any st (Shown k) r q x
+      (λ j n. record {
+        told = tt;
+        full = λ s. s;
+        good = λ codes g e.
+            let w = f j n codes g e in
+            let next = advanced-alive codes i code st o g (other-op codes i code st o g k e h) (q j) (w .1 .0) (w .1 .1) (w .1 .2) in
+            sends-alive codes i st _ j x next (pid-sound k j n codes g e) (w .0);
+      })
       (ends-shown k badarg (λ c g e. refl))
 
-  -- link and unlink: a change of the links, told to another process
-  links-shown : (k : ℕ) → eqb k 10 ≡ false → (f : ℕ → Process) (x : Signal) → ((j : ℕ) → eqb j i ≡ false → So (signalSound i j x)) →
-      ((j : ℕ) → eqb j i ≡ false → (codes : List (List Instruction)) → Running codes i code st o → So (isNumber j) → Kin (f j) codes) →
-      Shown k (toProcess st r (λ j. toOther i st j (sends st (advanced (f j)) j x)))
-  links-shown k h f x signal alive =
-      toProcess-any st (Shown k) (λ j. toOther i st j (sends st (advanced (f j)) j x)) r
-      (λ j q. toOther-any st (Shown k) i (j .0) _ (stays-shown k h) (λ e.
-      sends-shown k h (f (j .0)) (j .0) x (λ c g d. (pid-sound k j q c g d, signal (j .0) e)) (λ c g d. alive (j .0) e c g (pid-sound k j q c g d))))
-      (ends-shown k badarg (λ c g e. refl))
+  send-shown : (k : ℕ) → eqb k 10 ≡ false → (x : Signal) → ((j : ℕ) → If k (λ c. So (signalSound i j x))) → Shown k (sendsTo st r (λ j. st .process) x)
+  send-shown k h x f = sends-shown k h (λ j. st .process) x (λ j n c g e. (f j c g e, (g .alive, refl, refl)))
 
   -- link and unlink go to another process
-  other-sound : (j : ℕ) → eqb j i ≡ false → So (not (eqb i j))
-  other-sound j e = rw (ne-eqb i j (λ q. eqb-false j i e (sym q)))
+  others-shown : (k : ℕ) → eqb k 10 ≡ false → (q : ℕ → Process) (x : Signal) → ((j : ℕ) → So (not (eqb i j)) → So (signalSound i j x)) →
+      ((j : ℕ) → eqb j i ≡ false → So (isNumber j) → If k (Kin (q j))) → Shown k (toOther i st r (sendsTo st r q x))
+  unfolding sameValue
+  others-shown k h q x signal alive =
+      toOther-any st (Shown k) i r _ (stays-shown k h) (λ d. sends-shown k h q x (λ j n c g e.
+      let apart : eqb j i ≡ false = rw n at d in
+      (signal j (rw (ne-eqb i j (λ m. eqb-false j i apart (sym m)))), alive j apart (pid-sound k j n c g e) c g e)))
 
-  linked-shown : Shown 6 (toProcess st r (λ j. toOther i st j (sends st (advanced (linked (st .process) j)) j Link)))
+  linked-shown : Shown 6 (toOther i st r (sendsTo st r (linked (st .process)) Link))
   unfolding linked
-  linked-shown = links-shown 6 refl (linked (st .process)) Link other-sound (λ j e codes g n. (linked-alive codes i (st .process) (st .mail) (g .alive) j (g .number) n e, refl, refl))
+  linked-shown = others-shown 6 refl (linked (st .process)) Link (λ j h. h) (λ j d n codes g e. (linked-alive codes i (st .process) (st .mail) (g .alive) j (g .number) n d, refl, refl))
 
-  unlinked-shown : Shown 7 (toProcess st r (λ j. toOther i st j (sends st (advanced (unlinked (st .process) j)) j Unlink)))
+  unlinked-shown : Shown 7 (toOther i st r (sendsTo st r (unlinked (st .process)) Unlink))
   unfolding unlinked
-  unlinked-shown = links-shown 7 refl (unlinked (st .process)) Unlink other-sound (λ j e codes g n. (unlinked-alive codes i (st .process) (st .mail) (g .alive) j, refl, refl))
+  unlinked-shown = others-shown 7 refl (unlinked (st .process)) Unlink (λ j h. h) (λ j d n codes g e. (unlinked-alive codes i (st .process) (st .mail) (g .alive) j, refl, refl))
 
   spawns-shown : Shown 9 (spawns i st o)
   unfolding advanced

@@ -13,7 +13,7 @@ use Rattle.node.specs.Mailboxes.{emptyMailbox}
 use Rattle.node.specs.Ops.{stopOp}
 use Rattle.node.specs.Processes.{unborn, fresh}
 use Rattle.node.specs.Rows.{emptyRow}
-use Rattle.node.specs.Values.{intZero, pid}
+use Rattle.node.specs.Values.{intZero, pid, intKind}
 
 unfoldable pub opOf : ℕ → ℕ → ℕ → ℕ → ℕ → Value → Op
 opOf number r s target small v = record { number = number; r = r; s = s; target = target; small = small; value = v; process = record { 0 = 0 }; behaviour = record { 0 = 0 } }
@@ -26,7 +26,7 @@ unfoldable pub sample : Process → Process → Node
 sample p q = record {
   count = 2;
   lens = 3 ∷ 2 ∷ replicate 6 0;
-  ops = firsts stopOp 32 (opOf 0 0 0 0 0 (pid 2) ∷ opOf 0 1 0 0 0 (int 12) ∷ opOf 4 0 1 0 0 intZero ∷ []) ++ firsts stopOp 32 (opOf 10 0 0 0 1 intZero ∷ opOf 11 0 1 2 1 intZero ∷ []) ++ replicate 192 stopOp;
+  ops = firsts stopOp 32 (opOf 0 0 0 0 0 (pid 2) ∷ opOf 0 1 0 0 0 (int 12) ∷ opOf 4 0 1 0 0 intZero ∷ []) ++ firsts stopOp 32 (opOf 10 0 0 0 1 intZero ∷ opOf 11 0 1 2 intKind intZero ∷ []) ++ replicate 192 stopOp;
   processes = p ∷ q ∷ replicate 14 unborn;
   mail = replicate 16 emptyMailbox;
   flight = replicate 256 emptyRow;

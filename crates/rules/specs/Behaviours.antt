@@ -12,10 +12,10 @@ use lib.ListN.{length, getD, take, drop}
 use Rattle.node.specs.declared.Op.{Op}
 use Rattle.node.specs.declared.Value.{Value}
 use Rattle.node.specs.Lists.{allFrom, allOf, allTwo}
-use Rattle.node.specs.Ops.{kindsOf, opCount, recvOp, clauseOp, exactKind}
-use Rattle.node.specs.Values.{intZero, isNumber, valueSound}
+use Rattle.node.specs.Ops.{kindsOf, opCount, recvOp, clauseOp}
+use Rattle.node.specs.Values.{intZero, isNumber, valueSound, exactKind, noteKind}
 
--- an operand: a number or a value; a clause kind is 0 any, 1 int, 2 atom, 3 pid, 4 note, or 5 with one exact value
+-- an operand: a number or a value; a clause kind is one of node's `exactKind`, which has one exact value, to `noteKind`
 pub record Operand : Type 0 where
   pub number : ℕ
   pub value : Value
@@ -61,7 +61,7 @@ operandInRange c n kind x =
     ∷ isNumber (x .number)  -- process number q
     ∷ leb (x .number) 1  -- flag f
     ∷ (leb 1 (x .number) && leb (x .number) 8)  -- count n of clauses
-    ∷ (leb (x .number) exactKind && valueSound (x .value))  -- clause kind k
+    ∷ (leb (x .number) noteKind && valueSound (x .value))  -- clause kind k
     ∷ [])
     kind true
 

@@ -1,47 +1,26 @@
 -- Receiving (document 01, "Recv").
---   fits c m        clause c takes message m
---   Fit             a message, its index in the mailbox, and the clause that takes it
---   search cs i ms  the first fit: messages in mailbox order, the first having index i, and for each the clauses in their order
---   kept p c m      process p with message m in the registers that clause c names
---   receives        the answer of a recv
-use mathlib.Core.Bool.{Bool, true, false, cond}
+--   fits c m           clause c takes message m
+--   Fit                a message, its index in the mailbox, and the clause that takes it
+--   search cs i ms     the first fit: messages in mailbox order, the first having index i, and for each the clauses in their order
+--   withMessage p c m  process p with message m in the registers that clause c names
+--   receives           the answer of a recv
+use mathlib.Core.Bool.{Bool, false, cond, _||_}
 use mathlib.Core.List.{List, [], _∷_}
 use mathlib.Core.Option.{Option, none, some}
 use Prim.Native.Nat.{ℕ, _+_}
-use lib.ListN.{getD, take, drop}
+use lib.Dec.{eqb}
+use lib.ListN.{take, drop}
 use Rattle.node.specs.declared.Message.{Message}
 use Rattle.node.specs.declared.Message.the-variants.{Plain, Note}
 use Rattle.node.specs.declared.Op.{Op}
 use Rattle.node.specs.declared.Process.{Process}
 use Rattle.node.specs.declared.Value.{Value}
-use Rattle.node.specs.declared.Value.the-variants.{Int, Atom, Pid}
+use Rattle.node.specs.declared.Value.the-variants.{Pid}
 use Rattle.node.specs.Mailboxes.{messages, without}
 use Rattle.node.specs.Processes.{withRegister, moved}
+use Rattle.node.specs.Values.{exactKind, anyKind, messageKind, sameValue}
 use Rattle.rules.specs.Answers.{Answer, refused, done, noFit}
 use Rattle.rules.specs.Effects.{State, Effect}
-use Rattle.node.specs.Values.{sameValue}
-
-abbrev pub isInt : Message → Bool
-isInt (Plain (Int z)) = true
-isInt (Plain (Atom a)) = false
-isInt (Plain (Pid j)) = false
-isInt (Note j v) = false
-
-abbrev pub isAtom : Message → Bool
-isAtom (Plain (Int z)) = false
-isAtom (Plain (Atom a)) = true
-isAtom (Plain (Pid j)) = false
-isAtom (Note j v) = false
-
-abbrev pub isPid : Message → Bool
-isPid (Plain (Int z)) = false
-isPid (Plain (Atom a)) = false
-isPid (Plain (Pid j)) = true
-isPid (Note j v) = false
-
-abbrev pub isNote : Message → Bool
-isNote (Plain v) = false
-isNote (Note j v) = true
 
 abbrev pub isValue : Value → Message → Bool
 isValue w (Plain v) = sameValue v w
@@ -49,7 +28,7 @@ isValue w (Note j v) = false
 
 -- "k is any (notes too), int, atom, pid, note or one exact V (values only)"
 unfoldable pub fits : Op → Message → Bool
-fits c m = getD (true ∷ isInt m ∷ isAtom m ∷ isPid m ∷ isNote m ∷ []) (c .small) (isValue (c .value) m)
+fits c m = cond (eqb (c .small) exactKind) (isValue (c .value) m) (eqb (c .small) anyKind || eqb (c .small) (messageKind m))
 
 pub record Fit : Type 0 where
   pub index : ℕ
@@ -66,15 +45,15 @@ search cs i [] = none
 search cs i (m ∷ ms) = firstClause cs i m (search cs (i + 1) ms)
 
 -- "A value goes to r; of a note the sender goes to r, then the reason to s"
-abbrev pub kept : Process → Op → Message → Process
-kept p c (Plain v) = withRegister p (c .r) v
-kept p c (Note j v) = withRegister (withRegister p (c .r) (Pid j)) (c .s) v
+abbrev pub withMessage : Process → Op → Message → Process
+withMessage p c (Plain v) = withRegister p (c .r) v
+withMessage p c (Note j v) = withRegister (withRegister p (c .r) (Pid j)) (c .s) v
 
 -- "That message leaves, the rest keep their order. .. Place becomes t"
 abbrev pub receivesFit : State → Option Fit → Answer Effect
 receivesFit st none = refused noFit
 receivesFit st (some f) = done (record {
-  process = moved (kept (st .process) (f .clause) (f .message)) (f .clause .target);
+  process = moved (withMessage (st .process) (f .clause) (f .message)) (f .clause .target);
   mail = without (st .mail) (f .index);
   sent = none;
   born = none;

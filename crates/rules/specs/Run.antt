@@ -1,16 +1,21 @@
 -- Running (document 01, "Run, live", "Ending" and "Run, closing").
+--   processIn v          the process that value v names
+--   sendsTo st v q x     sends x to the process j that v names, and becomes q j
+--   toOther i st v a     answer a, where v is not process i's own number
 --   opTable, runsOp      what process i does at op o of its code, by the op's number
 --   closes st            what a closing process does
 --   runs code i st       what a run of process i does; code is that of its behaviour
 use mathlib.Core.Bool.{Bool, true, false, cond}
 use mathlib.Core.List.{List, [], _∷_}
-use mathlib.Core.Option.{none, some}
+use mathlib.Core.Option.{Option, none, some}
 use Prim.Native.Nat.{ℕ, zero, suc}
 use lib.Dec.{leb, eqb}
 use lib.IntN.{_+ℤ_}
 use lib.ListN.{length, getD}
 use lib.Signed.{ltZ}
 use Rattle.node.specs.declared.Op.{Op}
+use Rattle.node.specs.declared.Process.{Process}
+use Rattle.node.specs.declared.Signal.{Signal}
 use Rattle.node.specs.declared.Signal.the-variants.{Msg, Exit, Link, Unlink}
 use Rattle.node.specs.declared.Stage.{Stage}
 use Rattle.node.specs.declared.Stage.the-variants.{Unborn, Live, Closing, Gone}
@@ -47,15 +52,23 @@ compares st t (Int x) (Pid b) = ends st badarg
 compares st t (Atom a) w = ends st badarg
 compares st t (Pid a) w = ends st badarg
 
+-- the one function that knows which values are process numbers
+abbrev pub processIn : Value → Option ℕ
+processIn (Int z) = none
+processIn (Atom a) = none
+processIn (Pid j) = some (j .0)
+
 -- "If r of send, exit, link or unlink holds no p, the process ends with a3, before 26 is looked at"
-abbrev pub toProcess : State → Value → (ℕ → Answer Effect) → Answer Effect
-toProcess st (Int z) f = ends st badarg
-toProcess st (Atom a) f = ends st badarg
-toProcess st (Pid j) f = f (j .0)
+abbrev pub toProcess : State → Option ℕ → (ℕ → Answer Effect) → Answer Effect
+toProcess st none f = ends st badarg
+toProcess st (some j) f = f j
+
+abbrev pub sendsTo : State → Value → (ℕ → Process) → Signal → Answer Effect
+sendsTo st v q x = toProcess st (processIn v) (λ j. sends st (advanced (q j)) j x)
 
 -- link and unlink "to itself: nothing"
-abbrev pub toOther : ℕ → State → ℕ → Answer Effect → Answer Effect
-toOther i st j a = cond (eqb j i) (becomes st (advanced (st .process))) a
+abbrev pub toOther : ℕ → State → Value → Answer Effect → Answer Effect
+toOther i st v a = cond (sameValue v (pid i)) (becomes st (advanced (st .process))) a
 
 abbrev pub spawns : ℕ → State → Op → Answer Effect
 spawns i st o = done (record {
@@ -75,10 +88,10 @@ opTable code i st o =
     ∷ setsRegister st (o .r) s  -- copy,r,s
     ∷ setsRegister st (o .r) (pid i)  -- self,r
     ∷ adds st (o .r) r s  -- add,r,s
-    ∷ toProcess st r (λ j. sends st (advanced p) j (Msg s))  -- send,r,s
-    ∷ toProcess st r (λ j. sends st (advanced p) j (Exit s false))  -- exit,r,s
-    ∷ toProcess st r (λ j. toOther i st j (sends st (advanced (linked p j)) j Link))  -- link,r
-    ∷ toProcess st r (λ j. toOther i st j (sends st (advanced (unlinked p j)) j Unlink))  -- unlink,r
+    ∷ sendsTo st r (λ j. p) (Msg s)  -- send,r,s
+    ∷ sendsTo st r (λ j. p) (Exit s false)  -- exit,r,s
+    ∷ toOther i st r (sendsTo st r (linked p) Link)  -- link,r
+    ∷ toOther i st r (sendsTo st r (unlinked p) Unlink)  -- unlink,r
     ∷ becomes st (advanced (trapped p (eqb (o .small) 1)))  -- trap,f
     ∷ spawns i st o  -- spawn,r,b,q
     ∷ receives code st o  -- recv,n

@@ -9,8 +9,8 @@ message-at-requires c κs = search needs
 clause-at-requires : tie.Need-clause-at-requires
 clause-at-requires c κs = search needs
 
-keep-requires : tie.Need-keep-requires
-keep-requires c κs = search needs
+with-message-requires : tie.Need-with-message-requires
+with-message-requires c κs = search needs
 
 moved-requires : tie.Need-moved-requires
 moved-requires c κs = search needs
@@ -27,7 +27,7 @@ taken-spec =
     (tie.spec
     message-at-requires
     clause-at-requires
-    keep-requires
+    with-message-requires
     moved-requires
     without-requires
     returns)

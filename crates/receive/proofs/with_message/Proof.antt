@@ -1,8 +1,8 @@
--- `keep` puts a value into r, and of a note the sender into r, then the reason into s. Assumes nothing.
+-- `with_message` puts a value into r, and of a note the sender into r, then the reason into s. Assumes nothing.
 use mathlib.Core.Path.{_∙_}
 use borrow.Author.Needs.{needs}
-use Rattle.receive.proofs.keep.Statement.{statement}
-use Rattle.receive.proofs.keep.Tie as tie
+use Rattle.receive.proofs.with_message.Statement.{statement}
+use Rattle.receive.proofs.with_message.Tie as tie
 
 enum-known-m : tie.Need-enum-known-m
 enum-known-m c = search needs
@@ -25,8 +25,8 @@ returns c = rw (c .before .before .m .given .1) (c .with-register .ensures)
 returns-2 : tie.Need-returns-2
 returns-2 c = rw (c .before .before .before .m2 .given .1) (c .with-register3 .ensures ∙ rw (c .before .with-register2 .ensures))
 
-pub keep-spec : {M : Type 1} → statement M
-keep-spec =
+pub with-message-spec : {M : Type 1} → statement M
+with-message-spec =
     tie.close
     (tie.spec
     enum-known-m
