@@ -8,7 +8,7 @@ use native.Mathlib.Omega.{arith}
 use borrow.Author.Tests.{not-true, not-false, eq-eqb, ne-eqb, lt-ltb, le-ltb}
 use lib.ListN.{length, getD, set, take, drop, length-take, length-drop}
 use lib.Seq.{ext-getD, getD-take, getD-drop}
-use Rattle.decisions.specs.declared.Effect.{Effect}
+use Rattle.decisions.specs.declared.Decision.{Decision}
 use Rattle.decisions.specs.Answers.{mailOf, sentOf, bornOf, ran, arrived, answerOf}
 use Rattle.decisions.proofs.Meanings.{At, run-means, run-joins-none, arrival-means, arrival-quiet}
 use Rattle.node.proofs.Lists.{map-rising-at}
@@ -183,7 +183,7 @@ module _ (n : Node) {a : Action} (t : Decoded) (m : Means a t) where
         unfolding signalWaits
         turn-23 h = let c : row n j i .count ≡ 0 = rw row-is at h in rule-23 n a numbers awake (rw (action-is, c))
 
-        module _ (some-wait : R .count ≡ 0 → ⊥) (e : Effect) (x : Signal) (old : x ≡ oldest R) (says : e ≡ arrived (t .owner) (t .from) P (M .count) x) where
+        module _ (some-wait : R .count ≡ 0 → ⊥) (e : Decision) (x : Signal) (old : x ≡ oldest R) (says : e ≡ arrived (t .owner) (t .from) P (M .count) x) where
           waiting : 0 < row n j i .count
           waiting = let z : row n j i .count ≡ 0 → ⊥ = rw row-is at some-wait in omega arith
 
@@ -199,7 +199,7 @@ module _ (n : Node) {a : Action} (t : Decoded) (m : Means a t) where
               rw (action-is, q, ← at-is) (sym (arrival-means [] (t .owner) (t .from) P M x) ∙ ap (answerOf [] i (stateOf P M)) (sym says))
 
           quiet-arrival : (e .receives ≡ false) × (e .sends ≡ false) × (e .spawns ≡ false)
-          quiet-arrival = subst (λ (z : Effect). (z .receives ≡ false) × (z .sends ≡ false) × (z .spawns ≡ false)) (sym says) (arrival-quiet (t .owner) (t .from) P (M .count) x)
+          quiet-arrival = subst (λ (z : Decision). (z .receives ≡ false) × (z .sends ≡ false) × (z .spawns ≡ false)) (sym says) (arrival-quiet (t .owner) (t .from) P (M .count) x)
 
           pub turn-refused : (e .refusal ≡ 0 → ⊥) → rule n a ≡ refused (e .refusal)
           turn-refused h = rule-undecided n a numbers awake waits (e .refusal) (decided ∙ rw (quiet-arrival .0, ne-eqb (e .refusal) 0 h))
@@ -246,7 +246,7 @@ module _ (n : Node) {a : Action} (t : Decoded) (m : Means a t) where
         stands = subst (λ (p : Process). p .stage ≡ Live → Stands n p) (sym here) (stands-in n whole i number)
 
         -- what was decided, where e says what a run of such a process does
-        module _ (e : Effect) (says : e ≡ ran (t .owner) P (lengthAt n P) (opAt n P 0)) where
+        module _ (e : Decision) (says : e ≡ ran (t .owner) P (lengthAt n P) (opAt n P 0)) where
           answered : (b : Mailbox) → answerOf (code n B) i (stateOf P b) e ≡ runs (code n B) i (stateOf P b)
           answered b = ap (answerOf (code n B) i (stateOf P b)) says ∙ run-means (code n B) (t .owner) P (lengthAt n P) (opAt n P 0) stands b
 
@@ -255,7 +255,7 @@ module _ (n : Node) {a : Action} (t : Decoded) (m : Means a t) where
           decided-run = rw (run-is, ← at-is) (sym (answered M))
 
           joinless : e .joins ≡ false
-          joinless = ap (λ (z : Effect). z .joins) says ∙ run-joins-none (code n B) (t .owner) P (lengthAt n P) (opAt n P 0) stands
+          joinless = ap (λ (z : Decision). z .joins) says ∙ run-joins-none (code n B) (t .owner) P (lengthAt n P) (opAt n P 0) stands
 
           module _ (quiet : e .receives ≡ false) where
             pub turn-22 : (e .refusal ≡ 0 → ⊥) → rule n a ≡ refused (e .refusal)

@@ -29,7 +29,7 @@ use Rattle.rules.specs.Arrive.{joinsWith, arrivesIn, arrives}
 use Rattle.rules.specs.Effects.{State, Effect, becomes, ends, sends}
 use Rattle.rules.specs.Receive.{receives}
 use Rattle.rules.specs.Run.{adds, compares, opTable, runsOp, runsLive, runsIn, runs, closesTo}
-use Rattle.decisions.specs.Answers.{unread, tells, refusesEffect, becomesEffect, effectOf, says, ranOp, codeAt, ran, arrived, integersOf}
+use Rattle.decisions.specs.Answers.{unread, tells, refusing, becoming, decisionOf, says, ranOp, codeAt, ran, arrived, integersOf}
 use Rattle.decisions.specs.declared.Pair.the-variants.{Not, Both}
 
 module _ (st : State) (r : ℕ) where
@@ -82,7 +82,7 @@ module _ (i : ProcessNumber) (p : Process) (o : Op) where
   pub ran-stop : 15 ≤ o .number → says p 0 (λ st. ends st (register (st .process) (o .r))) ≡ ranOp i p o
   ran-stop h =
       let st = unread p 0 in
-      ap (effectOf st) (sym (List·getD-eq-default (opTable [] (i .0) st o) (ends st (register p (o .r))) {n = o .number} h)) ∙ ran-at (o .number) refl
+      ap (decisionOf st) (sym (List·getD-eq-default (opTable [] (i .0) st o) (ends st (register p (o .r))) {n = o .number} h)) ∙ ran-at (o .number) refl
 
 -- ---- a run by the stage, and at a place
 
@@ -101,7 +101,7 @@ module _ (i : ProcessNumber) (p : Process) (len : ℕ) (o : Op) where
   unfolding ran runs
   at-stage e = sym (ap (λ (s : Stage). says p 0 (runsIn s (ops p len o) (i .0))) e)
 
-  pub live-end : len ≤ p .place → becomesEffect (ended p normal) ≡ says p 0 (runsLive (ops p len o) (i .0))
+  pub live-end : len ≤ p .place → becoming (ended p normal) ≡ says p 0 (runsLive (ops p len o) (i .0))
   unfolding runsLive
   live-end h = rw (ops-length p len o, le-leb len (p .place) h)
 
@@ -112,7 +112,7 @@ module _ (i : ProcessNumber) (p : Process) (len : ℕ) (o : Op) where
 -- ---- a process whose mailbox holds k messages
 
 module _ (p q : Process) (k : ℕ) where
-  pub says-becomes : becomesEffect q ≡ says p k (λ st. becomes st q)
+  pub says-becomes : becoming q ≡ says p k (λ st. becomes st q)
   says-becomes = rw (le-ltb k k (omega arith))
 
   pub says-joins : (x : Message) → k < 16 → tells 0 q false (some x) none none ≡ says p k (λ st. joinsWith st q x)
@@ -121,7 +121,7 @@ module _ (p q : Process) (k : ℕ) where
       let l : k < min (k + 1) 255 = omega arith in
       rw (lt-ltb k 16 h, lt-ltb k (min (k + 1) 255) l, getD-set-same (emptyMailbox .slots) k (record { message = x }) noMessage h)
 
-  pub says-full : (x : Message) → 16 ≤ k → refusesEffect p 24 ≡ says p k (λ st. joinsWith st q x)
+  pub says-full : (x : Message) → 16 ≤ k → refusing p 24 ≡ says p k (λ st. joinsWith st q x)
   says-full x h = rw (le-ltb k 16 h)
 
 -- a process that becomes q where b holds and message x has room, which q is then said of; else p

@@ -6,7 +6,7 @@
 --   arrival-quiet    an arrival searches no mailbox, sends nothing and brings nobody to life
 use mathlib.Core.Bool.{Bool, true, false, cond, not, _&&_}
 use mathlib.Core.List.{List, [], _∷_}
-use mathlib.Core.Option.{none}
+use mathlib.Core.Option.{Option, none, some}
 use mathlib.Core.Path.{_≡_, refl, sym, _∙_, ap}
 use Prim.Native.Nat.{ℕ, zero, suc, _+_, _<_, min}
 use native.Mathlib.Omega.{arith}
@@ -30,15 +30,15 @@ use Rattle.node.specs.Mailboxes.{noMessage, emptyMailbox, messages, joined}
 use Rattle.node.specs.Nodes.{noOp, noMailbox}
 use Rattle.node.specs.Processes.{register, advanced, linksTo, linked, unlinked}
 use Rattle.node.specs.Sets.{lowestPeer}
-use Rattle.node.specs.Values.{normal, kill, badarith, fitsInt, sameValue}
+use Rattle.node.specs.Values.{normal, kill, badarith, pid, fitsInt, sameValue}
 use Rattle.rules.specs.Answers.{Answer, done, need, mailboxFull}
 use Rattle.rules.specs.Arrive.{joinsWith, exits, takes, arrivesIn, arrives}
 use Rattle.rules.specs.Effects.{State, Effect, becomes, ends, sends}
 use Rattle.rules.specs.Receive.{receives}
-use Rattle.rules.specs.Run.{setsRegister, adds, compares, toProcess, toOther, opTable, runsOp, closesTo, closes, runsLive, runsIn, runs}
+use Rattle.rules.specs.Run.{setsRegister, adds, compares, processIn, toProcess, sendsTo, toOther, opTable, runsOp, closesTo, closes, runsLive, runsIn, runs}
 use Rattle.decisions.proofs.Laws.{ops-length, ops-op}
 use Rattle.receive.specs.Answers.{stateOf}
-use Rattle.decisions.specs.Answers.{unread, effectOf, codeAt, ran, arrived, answerOf}
+use Rattle.decisions.specs.Answers.{unread, decisionOf, codeAt, ran, arrived, answerOf}
 
 -- the code has len ops, and o stands at place t where t is not its end
 pub record At (code : List Op) (len t : ℕ) (o : Op) : Type 0 where
@@ -51,7 +51,7 @@ module _ (code : List Op) (i : ℕ) (p : Process) (m : Mailbox) where
   st = stateOf p m
 
   abbrev heard : ℕ → Answer Effect → Answer Effect
-  heard k a = answerOf code i st (effectOf (unread p k) a)
+  heard k a = answerOf code i st (decisionOf (unread p k) a)
 
   heard-cond : (k : ℕ) (b : Bool) (x y : Answer Effect) {v w : Answer Effect} → heard k x ≡ v → heard k y ≡ w → heard k (cond b x y) ≡ cond b v w
   heard-cond k true x y e f = e
@@ -63,7 +63,7 @@ module _ (code : List Op) (i : ℕ) (p : Process) (m : Mailbox) where
   bare = unread p 0
 
   abbrev Runs : Answer Effect → Answer Effect → Type 0
-  Runs x y = (heard 0 x ≡ y) × (effectOf bare x .joins ≡ false)
+  Runs x y = (heard 0 x ≡ y) × (decisionOf bare x .joins ≡ false)
 
   runs-cond : (b : Bool) (x y : Answer Effect) {v w : Answer Effect} → Runs x v → Runs y w → Runs (cond b x y) (cond b v w)
   runs-cond true x y e f = e
@@ -83,13 +83,12 @@ module _ (code : List Op) (i : ℕ) (p : Process) (m : Mailbox) where
   runs-compares t (Atom a) w = (refl, refl)
   runs-compares t (Pid a) w = (refl, refl)
 
-  runs-to : (v : Value) (f : State → ℕ → Answer Effect) → ((j : ℕ) → Runs (f bare j) (f st j)) → Runs (toProcess bare v (f bare)) (toProcess st v (f st))
-  runs-to (Int z) f e = (refl, refl)
-  runs-to (Atom a) f e = (refl, refl)
-  runs-to (Pid j) f e = e (j .0)
+  runs-to : (o : Option ℕ) (q : ℕ → Process) (x : Signal) → Runs (toProcess bare o (λ j. sends bare (advanced (q j)) j x)) (toProcess st o (λ j. sends st (advanced (q j)) j x))
+  runs-to none q x = (refl, refl)
+  runs-to (some j) q x = (refl, refl)
 
-  runs-other : (q : ℕ → Process) (x : Signal) (j : ℕ) → Runs (toOther i bare j (sends bare (q j) j x)) (toOther i st j (sends st (q j) j x))
-  runs-other q x j = runs-cond (eqb j i) (becomes bare (advanced p)) (sends bare (q j) j x) (refl, refl) (refl, refl)
+  runs-other : (v : Value) (q : ℕ → Process) (x : Signal) → Runs (toOther i bare v (sendsTo bare v q x)) (toOther i st v (sendsTo st v q x))
+  runs-other v q x = runs-cond (sameValue v (pid i)) (becomes bare (advanced p)) (sendsTo bare v q x) (refl, refl) (runs-to (processIn v) q x)
 
   -- two tables, entry by entry
   abbrev EachRuns : List (Answer Effect) → List (Answer Effect) → Type 0
@@ -124,13 +123,13 @@ module _ (code : List Op) (i : ℕ) (p : Process) (m : Mailbox) where
           (
             runs-adds (o .r) r s,  -- add
             (
-              runs-to r (λ t j. sends t (advanced p) j (Msg s)) (λ j. (refl, refl)),  -- send
+              runs-to (processIn r) (λ j. p) (Msg s),  -- send
               (
-                runs-to r (λ t j. sends t (advanced p) j (Exit s false)) (λ j. (refl, refl)),  -- exit
+                runs-to (processIn r) (λ j. p) (Exit s false),  -- exit
                 (
-                  runs-to r (λ t j. toOther i t j (sends t (advanced (linked p j)) j Link)) (runs-other (λ j. advanced (linked p j)) Link),  -- link
+                  runs-other r (linked p) Link,  -- link
                   (
-                    runs-to r (λ t j. toOther i t j (sends t (advanced (unlinked p j)) j Unlink)) (runs-other (λ j. advanced (unlinked p j)) Unlink),  -- unlink
+                    runs-other r (unlinked p) Unlink,  -- unlink
                     (
                       (refl, refl),
                       (
@@ -258,7 +257,7 @@ arrival-means code i j p m x = heard-arrives code (i .0) p m (j .0) (p .stage) x
 
 module _ (i j : ℕ) (p : Process) (k : ℕ) where
   abbrev Quiet : Answer Effect → Type 0
-  Quiet a = let e = effectOf (unread p k) a in (e .receives ≡ false) × (e .sends ≡ false) × (e .spawns ≡ false)
+  Quiet a = let e = decisionOf (unread p k) a in (e .receives ≡ false) × (e .sends ≡ false) × (e .spawns ≡ false)
 
   quiet-cond : (b : Bool) (x y : Answer Effect) → Quiet x → Quiet y → Quiet (cond b x y)
   quiet-cond true x y g h = g

@@ -3,9 +3,9 @@
 --   unread p k             what a decision knows of its owner: process p, with a mailbox of k messages that are not looked at
 --   tells ..               the record that tells a refusal (0 if none), the next process, whether the mailbox is to be searched, which message
 --                          joins, what is sent and who is brought to life; where there is none of these, its fields are blank
---   refusesEffect, becomesEffect, searchesEffect, sendsEffect   four such records by name
+--   refusing, becoming, searching, sendingTo   four such records by name
 --   newest k m             the message that stands behind k others in mailbox m
---   effectOf st a          the record that tells answer a of the rules, of a process in state st
+--   decisionOf st a        the record that tells answer a of the rules, of a process in state st
 --   says p k f             the record that tells what rule f answers for process p with k messages
 --   ranOp i p o            what a run of process i at op o says
 --   codeAt len t o         a code of len ops, with o at place t
@@ -13,6 +13,7 @@
 --   arrived i j p k x      what the arrival at process i of signal x from j says
 --   mailOf, sentOf, bornOf the mailbox behind a record, what it sends, and whom it brings to life
 --   answerOf code i st e   the rules' answer that record e tells of process i, in state st and with its code: of a run and of an arrival
+--   senderOf p x j         process p once it sends x to j: link and unlink change its own links
 --   sumOf z                the sum of two integers, where it is one too
 --   integersOf v w         two values, where both are integers
 use mathlib.Core.Bool.{Bool, true, false, cond}
@@ -28,24 +29,23 @@ use Rattle.node.specs.declared.Op.{Op}
 use Rattle.node.specs.declared.Process.{Process}
 use Rattle.node.specs.declared.ProcessNumber.{ProcessNumber}
 use Rattle.node.specs.declared.Signal.{Signal}
-use Rattle.node.specs.declared.Signal.the-variants.{Link}
+use Rattle.node.specs.declared.Signal.the-variants.{Msg, Exit, Link, Unlink}
 use Rattle.node.specs.declared.Value.{Value}
 use Rattle.node.specs.declared.Value.the-variants.{Int, Atom, Pid}
 use Rattle.node.specs.Mailboxes.{noMessage, emptyMailbox, joined}
 use Rattle.node.specs.Nodes.{noOp, noProcess}
-use Rattle.node.specs.Processes.{fresh}
+use Rattle.node.specs.Processes.{fresh, linked, unlinked}
 use Rattle.node.specs.Values.{intZero, pid, fitsInt}
 use Rattle.receive.specs.Answers.{stateOf}
 use Rattle.rules.specs.Answers.{Answer, refused, done, noFit}
 use Rattle.rules.specs.Arrive.{arrives}
-use Rattle.rules.specs.Effects.{State, Sending, Birth}
-use Rattle.rules.specs.Effects as effects
+use Rattle.rules.specs.Effects.{State, Sending, Birth, Effect}
 use Rattle.rules.specs.Receive.{receives}
 use Rattle.rules.specs.Run.{runs, runsOp}
 use Rattle.decisions.specs.declared.Pair.{Pair}
 use Rattle.decisions.specs.declared.Pair.the-variants.{Not, Both}
 use Rattle.decisions.specs.declared.Sum.{Sum}
-use Rattle.decisions.specs.declared.Effect.{Effect}
+use Rattle.decisions.specs.declared.Decision.{Decision}
 
 abbrev pub unread : Process → ℕ → State
 unread p k = stateOf p (record { slots = emptyMailbox .slots; count = k })
@@ -63,7 +63,7 @@ noSending = record { to = 0; signal = Link }
 abbrev pub noBirth : Birth
 noBirth = record { number = 0; process = noProcess }
 
-abbrev pub tells : ℕ → Process → Bool → Option Message → Option Sending → Option Birth → Effect
+abbrev pub tells : ℕ → Process → Bool → Option Message → Option Sending → Option Birth → Decision
 tells k p searches joins sent born = record {
   refusal = k;
   process = p;
@@ -79,61 +79,67 @@ tells k p searches joins sent born = record {
 }
 
 -- the process is as it was where the answer is a refusal
-abbrev pub refusesEffect : Process → ℕ → Effect
-refusesEffect p k = tells k p false none none none
+abbrev pub refusing : Process → ℕ → Decision
+refusing p k = tells k p false none none none
 
-abbrev pub becomesEffect : Process → Effect
-becomesEffect p = tells 0 p false none none none
+abbrev pub becoming : Process → Decision
+becoming p = tells 0 p false none none none
 
-abbrev pub searchesEffect : Process → Effect
-searchesEffect p = tells 0 p true none none none
+abbrev pub searching : Process → Decision
+searching p = tells 0 p true none none none
 
-abbrev pub sendsEffect : Process → ProcessNumber → Signal → Effect
-sendsEffect p j x = tells 0 p false none (some (record { to = j .0; signal = x })) none
+abbrev pub sendingTo : Process → ProcessNumber → Signal → Decision
+sendingTo p j x = tells 0 p false none (some (record { to = j .0; signal = x })) none
 
 -- the message that joined: the mailbox has one more than k, and it stands behind them
 abbrev pub newest : ℕ → Mailbox → Option Message
 newest k m = cond (ltb k (m .count)) (some (getD (m .slots) k noMessage .message)) none
 
 -- "recv without a fit": where no message was looked at, 25 says that the mailbox is still to be searched
-abbrev pub effectOf : State → Answer effects.Effect → Effect
-effectOf st (refused k) = cond (eqb k noFit) (searchesEffect (st .process)) (refusesEffect (st .process) k)
-effectOf st (done x) = tells 0 (x .process) false (newest (st .mail .count) (x .mail)) (x .sent) (x .born)
+abbrev pub decisionOf : State → Answer Effect → Decision
+decisionOf st (refused k) = cond (eqb k noFit) (searching (st .process)) (refusing (st .process) k)
+decisionOf st (done x) = tells 0 (x .process) false (newest (st .mail .count) (x .mail)) (x .sent) (x .born)
 
-abbrev pub says : Process → ℕ → (State → Answer effects.Effect) → Effect
-says p k f = effectOf (unread p k) (f (unread p k))
+abbrev pub says : Process → ℕ → (State → Answer Effect) → Decision
+says p k f = decisionOf (unread p k) (f (unread p k))
 
 -- ---- the decisions
 
 -- only a recv reads the code, for a message that it looks at
-unfoldable pub ranOp : ProcessNumber → Process → Op → Effect
+unfoldable pub ranOp : ProcessNumber → Process → Op → Decision
 ranOp i p o = says p 0 (λ st. runsOp [] (i .0) st o)
 
 abbrev pub codeAt : ℕ → ℕ → Op → List Op
 codeAt len t o = set (replicate len noOp) t o
 
-unfoldable pub ran : ProcessNumber → Process → ℕ → Op → Effect
+unfoldable pub ran : ProcessNumber → Process → ℕ → Op → Decision
 ran i p len o = says p 0 (λ st. runs (codeAt len (p .place) o) (i .0) st)
 
-unfoldable pub arrived : ProcessNumber → ProcessNumber → Process → ℕ → Signal → Effect
+unfoldable pub arrived : ProcessNumber → ProcessNumber → Process → ℕ → Signal → Decision
 arrived i j p k x = says p k (λ st. arrives (i .0) (j .0) st x)
 
 -- ---- the answer that a record tells
 
-abbrev pub mailOf : Mailbox → Effect → Mailbox
+abbrev pub mailOf : Mailbox → Decision → Mailbox
 mailOf m e = cond (e .joins) (joined m (e .message)) m
 
-abbrev pub sentOf : Effect → Option Sending
+abbrev pub sentOf : Decision → Option Sending
 sentOf e = cond (e .sends) (some (record { to = e .to .0; signal = e .signal })) none
 
-abbrev pub bornOf : ℕ → Effect → Option Birth
+abbrev pub bornOf : ℕ → Decision → Option Birth
 bornOf i e = cond (e .spawns) (some (record { number = e .number .0; process = fresh (e .behaviour) (pid i) })) none
 
-abbrev pub answerOf : List Op → ℕ → State → Effect → Answer effects.Effect
+abbrev pub answerOf : List Op → ℕ → State → Decision → Answer Effect
 answerOf code i st e =
     cond (e .receives) (receives code st (getD code (st .process .place) noOp))
     (cond (eqb (e .refusal) 0) (done (record { process = e .process; mail = mailOf (st .mail) e; sent = sentOf e; born = bornOf i e }))
     (refused (e .refusal)))
+
+abbrev pub senderOf : Process → Signal → ℕ → Process
+senderOf p (Msg v) j = p
+senderOf p (Exit v b) j = p
+senderOf p Link j = linked p j
+senderOf p Unlink j = unlinked p j
 
 abbrev pub sumOf : ℤ → Sum
 sumOf z = cond (fitsInt z) (record { fits = true; total = Int z }) (record { fits = false; total = intZero })

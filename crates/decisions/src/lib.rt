@@ -8,10 +8,10 @@ ghost use Rattle.node.specs.declared.Signal.the-variants.{Msg, Exit, Link, Unli
 ghost use Rattle.node.specs.declared.Value.the-variants.{Int};
 ghost use Rattle.node.specs.Processes.{register, moved, advanced, trapped, linked, unlinked, ended};
 ghost use Rattle.node.specs.Values.{pid, normal, kill, badarg, sameValue};
-ghost use Rattle.rules.specs.Effects.{becomes, ends, sends};
-ghost use Rattle.rules.specs.Run.{setsRegister, jumpsIf, adds, compares, toProcess, toOther, spawns, closes, runsLive};
+ghost use Rattle.rules.specs.Effects.{becomes, ends};
+ghost use Rattle.rules.specs.Run.{setsRegister, jumpsIf, adds, compares, sendsTo, toOther, spawns, closes, runsLive};
 ghost use Rattle.rules.specs.Arrive.{joinsWith, notes, exits, takes};
-ghost use Rattle.decisions.specs.Answers.{refusesEffect, becomesEffect, searchesEffect, sendsEffect, says, codeAt};
+ghost use Rattle.decisions.specs.Answers.{refusing, becoming, searching, sendingTo, says, codeAt, senderOf};
 ghost use Rattle.decisions.specs.Answers.{ranOp, ran, arrived, sumOf, integersOf};
 use node::BehaviourNumber;
 use node::MAILBOX_FULL;
@@ -24,11 +24,11 @@ use node::ProcessNumber;
 use node::Signal;
 use node::Stage;
 use node::Value;
-use receive::same_value;
+use node::same_value;
 
 // What a process decides on: a refusal (0 if none), and otherwise its next self, and what becomes of its mailbox, what it sends and
 // whom it brings to life, each where its flag is set.
-pub struct Effect {
+pub struct Decision {
     pub refusal: u8,
     pub process: Process,
     // The mailbox is searched, by the clauses behind the op.
@@ -44,20 +44,20 @@ pub struct Effect {
 }
 
 // A run of process i, whose code has len ops and which is at op.
-pub fn run(i: ProcessNumber, p: Process, len: u8, op: Op) -> Effect
+pub fn run(i: ProcessNumber, p: Process, len: u8, op: Op) -> Decision
     ensures { λ e. ⌜ e ≡ ran i p len op ⌝ }
 {
     let stage = p.stage;
     match stage {
-        Stage::Unborn => Effect::refuses(p, OWNER_UNBORN),
+        Stage::Unborn => Decision::refuses(p, OWNER_UNBORN),
         Stage::Live => run_live(i, p, len, op),
         Stage::Closing => close(p),
-        Stage::Gone => Effect::refuses(p, OWNER_GONE),
+        Stage::Gone => Decision::refuses(p, OWNER_GONE),
     }
 }
 
 // The op decides.
-pub fn run_op(i: ProcessNumber, p: Process, op: Op) -> Effect
+pub fn run_op(i: ProcessNumber, p: Process, op: Op) -> Decision
     ensures { λ e. ⌜ e ≡ ranOp i p op ⌝ }
 {
     let number = op.number;
@@ -82,23 +82,23 @@ pub fn run_op(i: ProcessNumber, p: Process, op: Op) -> Effect
 }
 
 // The arrival at process i, whose mailbox has count messages, of signal x from j.
-pub fn arrive(i: ProcessNumber, j: ProcessNumber, p: Process, count: u8, x: Signal) -> Effect
+pub fn arrive(i: ProcessNumber, j: ProcessNumber, p: Process, count: u8, x: Signal) -> Decision
     ensures { λ e. ⌜ e ≡ arrived i j p count x ⌝ }
 {
     let stage = p.stage;
     match stage {
-        Stage::Unborn => Effect::refuses(p, OWNER_UNBORN), // the signal waits in its row
+        Stage::Unborn => Decision::refuses(p, OWNER_UNBORN), // the signal waits in its row
         Stage::Live => take(i, j, p, count, x),
-        Stage::Closing => Effect::becomes(p),
-        Stage::Gone => Effect::becomes(p),
+        Stage::Closing => Decision::becomes(p),
+        Stage::Gone => Decision::becomes(p),
     }
 }
 
-impl Effect {
-    fn refuses(p: Process, k: u8) -> Effect
-        ensures { λ e. ⌜ e ≡ refusesEffect p k ⌝ }
+impl Decision {
+    fn refuses(p: Process, k: u8) -> Decision
+        ensures { λ e. ⌜ e ≡ refusing p k ⌝ }
     {
-        Effect {
+        Decision {
             refusal: k,
             process: p,
             receives: false,
@@ -114,16 +114,16 @@ impl Effect {
     }
 
     // Only the process changes.
-    fn becomes(p: Process) -> Effect
-        ensures { λ e. ⌜ e ≡ becomesEffect p ⌝ }
+    fn becomes(p: Process) -> Decision
+        ensures { λ e. ⌜ e ≡ becoming p ⌝ }
     {
-        Effect::refuses(p, 0)
+        Decision::refuses(p, 0)
     }
 
-    fn sends(p: Process, j: ProcessNumber, x: Signal) -> Effect
-        ensures { λ e. ⌜ e ≡ sendsEffect p j x ⌝ }
+    fn sends(p: Process, j: ProcessNumber, x: Signal) -> Decision
+        ensures { λ e. ⌜ e ≡ sendingTo p j x ⌝ }
     {
-        Effect {
+        Decision {
             refusal: 0,
             process: p,
             receives: false,
@@ -141,24 +141,24 @@ impl Effect {
 
 // ---- the ops, each by its number
 
-fn run_set(p: Process, op: Op) -> Effect
+fn run_set(p: Process, op: Op) -> Decision
     ensures { λ e. ⌜ e ≡ says p 0 (λ st. setsRegister st (op .r) (op .value)) ⌝ }
 {
     let v = op.value;
-    Effect::becomes(p.with_register(op.r, v).advanced())
+    Decision::becomes(p.with_register(op.r, v).advanced())
 }
 
-fn run_copy(p: Process, op: Op) -> Effect
+fn run_copy(p: Process, op: Op) -> Decision
     ensures { λ e. ⌜ e ≡ says p 0 (λ st. setsRegister st (op .r) (register p (op .s))) ⌝ }
 {
     let v = p.register(op.s);
-    Effect::becomes(p.with_register(op.r, v).advanced())
+    Decision::becomes(p.with_register(op.r, v).advanced())
 }
 
-fn run_self(i: ProcessNumber, p: Process, op: Op) -> Effect
+fn run_self(i: ProcessNumber, p: Process, op: Op) -> Decision
     ensures { λ e. ⌜ e ≡ says p 0 (λ st. setsRegister st (op .r) (pid (i .0))) ⌝ }
 {
-    Effect::becomes(p.with_register(op.r, Value::Pid(i)).advanced())
+    Decision::becomes(p.with_register(op.r, Value::Pid(i)).advanced())
 }
 
 // The sum of two integers, where it is an integer too.
@@ -191,16 +191,16 @@ fn total_of(x: i32, y: i32) -> Sum
 }
 
 // Two integers whose sum is one go to register r; anything else ends the process.
-fn add(p: Process, r: u8, x: i32, y: i32) -> Effect
+fn add(p: Process, r: u8, x: i32, y: i32) -> Decision
     ensures { λ e. ⌜ e ≡ says p 0 (λ st. adds st r (Int x) (Int y)) ⌝ }
 {
     let s = total_of(x, y);
     let fits = s.fits;
     if fits {
         let v = s.total;
-        return Effect::becomes(p.with_register(r, v).advanced());
+        return Decision::becomes(p.with_register(r, v).advanced());
     }
-    Effect::becomes(p.ended(Value::BADARITH))
+    Decision::becomes(p.ended(Value::BADARITH))
 }
 
 // Whether two values are both integers.
@@ -223,98 +223,102 @@ fn integers(v: Value, w: Value) -> Pair
     }
 }
 
-fn run_add(p: Process, op: Op) -> Effect
+fn run_add(p: Process, op: Op) -> Decision
     ensures { λ e. ⌜ e ≡ says p 0 (λ st. adds st (op .r) (register p (op .r)) (register p (op .s))) ⌝ }
 {
     let v = p.register(op.r);
     let w = p.register(op.s);
     let both = integers(v, w);
     match both {
-        Pair::Not => Effect::becomes(p.ended(Value::BADARITH)),
+        Pair::Not => Decision::becomes(p.ended(Value::BADARITH)),
         Pair::Both(x, y) => add(p, op.r, x, y),
     }
 }
 
 // The end of a process whose op finds a value of the wrong kind. It is an effect and no refusal, so no pair is looked at.
-fn end_badarg(p: Process) -> Effect
-    ensures { λ e. ⌜ e ≡ becomesEffect (ended p badarg) ⌝ }
+fn end_badarg(p: Process) -> Decision
+    ensures { λ e. ⌜ e ≡ becoming (ended p badarg) ⌝ }
 {
-    Effect::refuses(p.ended(Value::BADARG), 0)
+    Decision::refuses(p.ended(Value::BADARG), 0)
 }
 
-// A signal to the process that v names; where it names none the process ends.
-fn send_to(p: Process, v: Value, x: Signal) -> Effect
-    ensures { λ e. ⌜ e ≡ says p 0 (λ st. toProcess st v (λ j. sends st (advanced p) j x)) ⌝ }
+// Process p once it sends x to j: link and unlink change its own links too.
+fn sender(p: Process, x: Signal, j: ProcessNumber) -> Process
+    ensures { λ r. ⌜ r ≡ senderOf p x (j .0) ⌝ }
+{
+    match x {
+        Signal::Msg(_) => p,
+        Signal::Exit(_, _) => p,
+        Signal::Link => p.linked(j),
+        Signal::Unlink => p.unlinked(j),
+    }
+}
+
+// A signal to the process that v names; where it names none the process ends. Which values name a process is known here alone.
+fn send_to(p: Process, v: Value, x: Signal) -> Decision
+    ensures { λ e. ⌜ e ≡ says p 0 (λ st. sendsTo st v (senderOf p x) x) ⌝ }
 {
     match v {
         Value::Int(_) => end_badarg(p),
         Value::Atom(_) => end_badarg(p),
-        Value::Pid(j) => Effect::sends(p.advanced(), j, x),
+        Value::Pid(j) => Decision::sends(sender(p, x, j).advanced(), j, x),
     }
 }
 
-fn run_send(p: Process, op: Op) -> Effect
-    ensures { λ e. ⌜ e ≡ says p 0 (λ st. toProcess st (register p (op .r)) (λ j. sends st (advanced p) j (Msg (register p (op .s))))) ⌝ }
+// The same, to another process; to process i itself nothing.
+fn send_to_other(i: ProcessNumber, p: Process, v: Value, x: Signal) -> Decision
+    ensures { λ e. ⌜ e ≡ says p 0 (λ st. toOther (i .0) st v (sendsTo st v (senderOf p x) x)) ⌝ }
+{
+    if same_value(v, Value::Pid(i)) {
+        return Decision::becomes(p.advanced());
+    }
+    send_to(p, v, x)
+}
+
+fn run_send(p: Process, op: Op) -> Decision
+    ensures { λ e. ⌜ e ≡ says p 0 (λ st. sendsTo st (register p (op .r)) (λ j. p) (Msg (register p (op .s)))) ⌝ }
 {
     let v = p.register(op.r);
     let w = p.register(op.s);
     send_to(p, v, Signal::Msg(w))
 }
 
-fn run_exit(p: Process, op: Op) -> Effect
-    ensures { λ e. ⌜ e ≡ says p 0 (λ st. toProcess st (register p (op .r)) (λ j. sends st (advanced p) j (Exit (register p (op .s)) false))) ⌝ }
+fn run_exit(p: Process, op: Op) -> Decision
+    ensures { λ e. ⌜ e ≡ says p 0 (λ st. sendsTo st (register p (op .r)) (λ j. p) (Exit (register p (op .s)) false)) ⌝ }
 {
     let v = p.register(op.r);
     let w = p.register(op.s);
     send_to(p, v, Signal::Exit(w, false))
 }
 
-fn run_link(i: ProcessNumber, p: Process, op: Op) -> Effect
-    ensures { λ e. ⌜ e ≡ says p 0 (λ st. toProcess st (register p (op .r)) (λ j. toOther (i .0) st j (sends st (advanced (linked p j)) j Link))) ⌝ }
+fn run_link(i: ProcessNumber, p: Process, op: Op) -> Decision
+    ensures { λ e. ⌜ e ≡ says p 0 (λ st. toOther (i .0) st (register p (op .r)) (sendsTo st (register p (op .r)) (linked p) Link)) ⌝ }
 {
     let v = p.register(op.r);
-    match v {
-        Value::Int(_) => end_badarg(p),
-        Value::Atom(_) => end_badarg(p),
-        Value::Pid(j) => {
-            if j.0 == i.0 {
-                return Effect::becomes(p.advanced());
-            }
-            Effect::sends(p.linked(j).advanced(), j, Signal::Link)
-        }
-    }
+    send_to_other(i, p, v, Signal::Link)
 }
 
-fn run_unlink(i: ProcessNumber, p: Process, op: Op) -> Effect
-    ensures { λ e. ⌜ e ≡ says p 0 (λ st. toProcess st (register p (op .r)) (λ j. toOther (i .0) st j (sends st (advanced (unlinked p j)) j Unlink))) ⌝ }
+fn run_unlink(i: ProcessNumber, p: Process, op: Op) -> Decision
+    ensures { λ e. ⌜ e ≡ says p 0 (λ st. toOther (i .0) st (register p (op .r)) (sendsTo st (register p (op .r)) (unlinked p) Unlink)) ⌝ }
 {
     let v = p.register(op.r);
-    match v {
-        Value::Int(_) => end_badarg(p),
-        Value::Atom(_) => end_badarg(p),
-        Value::Pid(j) => {
-            if j.0 == i.0 {
-                return Effect::becomes(p.advanced());
-            }
-            Effect::sends(p.unlinked(j).advanced(), j, Signal::Unlink)
-        }
-    }
+    send_to_other(i, p, v, Signal::Unlink)
 }
 
-fn run_trap(p: Process, op: Op) -> Effect
+fn run_trap(p: Process, op: Op) -> Decision
     ensures { λ e. ⌜ e ≡ says p 0 (λ st. becomes st (advanced (trapped p (eqb (op .small) 1)))) ⌝ }
 {
     let f = op.small;
-    Effect::becomes(p.trapped(f == 1).advanced())
+    Decision::becomes(p.trapped(f == 1).advanced())
 }
 
-fn run_spawn(p: Process, op: Op) -> Effect
+fn run_spawn(p: Process, op: Op) -> Decision
     ensures { λ e. ⌜ ((i : ℕ) → e ≡ says p 0 (λ st. spawns i st op)) ⌝ }
 {
     let q = op.process;
     let b = op.behaviour;
     let next = p.with_register(op.r, Value::Pid(q)).advanced();
-    Effect {
+    Decision {
         refusal: 0,
         process: next,
         receives: false,
@@ -330,10 +334,10 @@ fn run_spawn(p: Process, op: Op) -> Effect
 }
 
 // The search itself needs the mailbox and the clauses, so a recv only says that it is due.
-fn run_recv(p: Process) -> Effect
-    ensures { λ e. ⌜ e ≡ searchesEffect p ⌝ }
+fn run_recv(p: Process) -> Decision
+    ensures { λ e. ⌜ e ≡ searching p ⌝ }
 {
-    Effect {
+    Decision {
         refusal: 0,
         process: p,
         receives: true,
@@ -348,29 +352,29 @@ fn run_recv(p: Process) -> Effect
     }
 }
 
-fn run_clause(p: Process) -> Effect
+fn run_clause(p: Process) -> Decision
     ensures { λ e. ⌜ e ≡ says p 0 (λ st. becomes st (advanced p)) ⌝ }
 {
-    Effect::becomes(p.advanced())
+    Decision::becomes(p.advanced())
 }
 
-fn run_jump(p: Process, op: Op) -> Effect
+fn run_jump(p: Process, op: Op) -> Decision
     ensures { λ e. ⌜ e ≡ says p 0 (λ st. becomes st (moved p (op .target))) ⌝ }
 {
-    Effect::becomes(p.moved(op.target))
+    Decision::becomes(p.moved(op.target))
 }
 
 // To place t where b holds, else on.
-fn jump_if(p: Process, b: bool, t: u8) -> Effect
+fn jump_if(p: Process, b: bool, t: u8) -> Decision
     ensures { λ e. ⌜ e ≡ says p 0 (λ st. jumpsIf st b t) ⌝ }
 {
     if b {
-        return Effect::becomes(p.moved(t));
+        return Decision::becomes(p.moved(t));
     }
-    Effect::becomes(p.advanced())
+    Decision::becomes(p.advanced())
 }
 
-fn run_same(p: Process, op: Op) -> Effect
+fn run_same(p: Process, op: Op) -> Decision
     ensures { λ e. ⌜ e ≡ says p 0 (λ st. jumpsIf st (sameValue (register p (op .r)) (op .value)) (op .target)) ⌝ }
 {
     let v = p.register(op.r);
@@ -379,7 +383,7 @@ fn run_same(p: Process, op: Op) -> Effect
     jump_if(p, b, op.target)
 }
 
-fn run_less(p: Process, op: Op) -> Effect
+fn run_less(p: Process, op: Op) -> Decision
     ensures { λ e. ⌜ e ≡ says p 0 (λ st. compares st (op .target) (register p (op .r)) (register p (op .s))) ⌝ }
 {
     let v = p.register(op.r);
@@ -391,34 +395,34 @@ fn run_less(p: Process, op: Op) -> Effect
     }
 }
 
-fn run_stop(p: Process, op: Op) -> Effect
+fn run_stop(p: Process, op: Op) -> Decision
     ensures { λ e. ⌜ e ≡ says p 0 (λ st. ends st (register p (op .r))) ⌝ }
 {
     let v = p.register(op.r);
-    Effect::becomes(p.ended(v))
+    Decision::becomes(p.ended(v))
 }
 
 // ---- a run
 
 // Tells the lowest link and drops it; without links the process is gone.
-fn close(p: Process) -> Effect
+fn close(p: Process) -> Decision
     ensures { λ e. ⌜ e ≡ says p 0 closes ⌝ }
 {
     let links = p.links;
     let j = links.lowest();
     if j.0 == 0 {
-        return Effect::becomes(p.gone());
+        return Decision::becomes(p.gone());
     }
     let v = p.reason;
-    Effect::sends(p.unlinked(j), j, Signal::Exit(v, true))
+    Decision::sends(p.unlinked(j), j, Signal::Exit(v, true))
 }
 
 // A live process whose code has len ops, at op.
-fn run_live(i: ProcessNumber, p: Process, len: u8, op: Op) -> Effect
+fn run_live(i: ProcessNumber, p: Process, len: u8, op: Op) -> Decision
     ensures { λ e. ⌜ e ≡ says p 0 (λ st. runsLive (codeAt len (p .place) op) (i .0) st) ⌝ }
 {
     if len <= p.place {
-        return Effect::becomes(p.ended(Value::NORMAL));
+        return Decision::becomes(p.ended(Value::NORMAL));
     }
     run_op(i, p, op)
 }
@@ -435,13 +439,13 @@ fn both(a: bool, b: bool) -> bool
 }
 
 // Message x joins a mailbox of count messages.
-fn join(p: Process, count: u8, x: Message) -> Effect
+fn join(p: Process, count: u8, x: Message) -> Decision
     ensures { λ e. ⌜ e ≡ says p count (λ st. joinsWith st p x) ⌝ }
 {
     if 16 <= count {
-        return Effect::refuses(p, MAILBOX_FULL);
+        return Decision::refuses(p, MAILBOX_FULL);
     }
-    Effect {
+    Decision {
         refusal: 0,
         process: p,
         receives: false,
@@ -457,7 +461,7 @@ fn join(p: Process, count: u8, x: Message) -> Effect
 }
 
 // A note of j's end joins; if it came along the link, the link is over. On 24 the link stays.
-fn note(j: ProcessNumber, p: Process, count: u8, v: Value, b: bool) -> Effect
+fn note(j: ProcessNumber, p: Process, count: u8, v: Value, b: bool) -> Decision
     ensures { λ e. ⌜ e ≡ says p count (λ st. notes (j .0) st v b) ⌝ }
 {
     if both(b, count < 16) {
@@ -484,34 +488,34 @@ fn drops_normal(i: ProcessNumber, j: ProcessNumber, v: Value) -> bool
 }
 
 // An exit signal from j: the first of document 01's five lines that applies.
-fn exit(i: ProcessNumber, j: ProcessNumber, p: Process, count: u8, v: Value, b: bool) -> Effect
+fn exit(i: ProcessNumber, j: ProcessNumber, p: Process, count: u8, v: Value, b: bool) -> Decision
     ensures { λ e. ⌜ e ≡ says p count (λ st. exits (i .0) (j .0) st v b) ⌝ }
 {
     let linked = p.links_to(j);
     if both(b, !linked) {
-        return Effect::becomes(p);
+        return Decision::becomes(p);
     }
     if kills(v, b) {
-        return Effect::becomes(p.ended(Value::KILLED));
+        return Decision::becomes(p.ended(Value::KILLED));
     }
     let trap = p.trap;
     if trap {
         return note(j, p, count, v, b);
     }
     if drops_normal(i, j, v) {
-        return Effect::becomes(p);
+        return Decision::becomes(p);
     }
-    Effect::becomes(p.ended(v))
+    Decision::becomes(p.ended(v))
 }
 
 // What a live process does with a signal from j.
-fn take(i: ProcessNumber, j: ProcessNumber, p: Process, count: u8, x: Signal) -> Effect
+fn take(i: ProcessNumber, j: ProcessNumber, p: Process, count: u8, x: Signal) -> Decision
     ensures { λ e. ⌜ e ≡ says p count (λ st. takes (i .0) (j .0) st x) ⌝ }
 {
     match x {
         Signal::Msg(v) => join(p, count, Message::Plain(v)),
         Signal::Exit(v, b) => exit(i, j, p, count, v, b),
-        Signal::Link => Effect::becomes(p.linked(j)),
-        Signal::Unlink => Effect::becomes(p.unlinked(j)),
+        Signal::Link => Decision::becomes(p.linked(j)),
+        Signal::Unlink => Decision::becomes(p.unlinked(j)),
     }
 }

@@ -4,7 +4,6 @@ use mathlib.Core.Path.{_≡_}
 use Prim.Native.Nat.{_<_, _^_}
 use native.Mathlib.Omega.{arith}
 use lib.IntN.{ℤ, pos, negsuc}
-use lib.Signed.{mag}
 use borrow.Author.Tests.{le-leb}
 use mir.Syntax.{w32}
 use mir.Val.{SFits}

@@ -1,7 +1,6 @@
 -- `close` tells the lowest link, or is gone. Assumes nothing.
 use borrow.Author.Needs.{needs}
 use mathlib.Core.Path.{_≡_, sym, _∙_}
-use Prim.Native.Nat.{ℕ}
 use Rattle.decisions.proofs.Laws.{closes-to}
 use Rattle.node.specs.Sets.{lowestPeer}
 use Rattle.rules.specs.Run.{closes}

@@ -18,6 +18,9 @@ end-badarg-requires-2 c κs = search needs
 enum-known-v : tie.Need-enum-known-v
 enum-known-v c = search needs
 
+sender-requires : tie.Need-sender-requires
+sender-requires c κs = search needs
+
 advanced-requires : tie.Need-advanced-requires
 advanced-requires c κs = search needs
 
@@ -25,23 +28,13 @@ sends-requires : tie.Need-sends-requires
 sends-requires c κs = search needs
 
 returns : tie.Need-returns
-returns c =
-    let its-enum-told = c .before .enum-told in
-    let its-end-badarg = c .end-badarg in
-    rw (its-enum-told .given .1, its-end-badarg .ensures)
+returns c = rw (c .before .enum-told .given .1, c .end-badarg .ensures)
 
 returns-2 : tie.Need-returns-2
-returns-2 c =
-    let its-enum-told2 = c .before .enum-told2 in
-    let its-end-badarg2 = c .end-badarg2 in
-    rw (its-enum-told2 .given .1, its-end-badarg2 .ensures)
+returns-2 c = rw (c .before .enum-told2 .given .1, c .end-badarg2 .ensures)
 
 returns-3 : tie.Need-returns-3
-returns-3 c =
-    let its-v = c .before .before .before .v in
-    let its-sends = c .sends in
-    let its-advanced = c .before .advanced in
-    rw (its-v .given .1, its-sends .ensures, its-advanced .ensures)
+returns-3 c = rw (c .before .before .before .before .v .given .1, c .sends .ensures, c .before .advanced .ensures, c .before .before .sender .ensures)
 
 pub send-to-spec : {M : Type 1} → statement M
 send-to-spec =
@@ -52,6 +45,7 @@ send-to-spec =
     enum-told-2
     end-badarg-requires-2
     enum-known-v
+    sender-requires
     advanced-requires
     sends-requires
     returns

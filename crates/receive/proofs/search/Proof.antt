@@ -1,7 +1,7 @@
 -- `search` is the first fit: the loops' invariants say that what is left of the messages, and of the clauses for one message, gives
 -- the answer. Assumes nothing.
 use borrow.Author.Needs.{needs}
-use mathlib.Core.Path.{_≡_, refl, sym, _∙_, ap}
+use mathlib.Core.Path.{_≡_, refl, sym, _∙_}
 use native.Mathlib.Omega.{arith}
 use Prim.Native.Nat.{_≤_, _<_, _-_, _+_}
 use lib.ListN.{length, take, drop, getD}

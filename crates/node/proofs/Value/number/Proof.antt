@@ -1,6 +1,5 @@
 -- `number` gives the number that a value holds: an integer as it is, an atom and a process number from 0 up. Assumes nothing.
 use borrow.Author.Needs.{needs}
-use mathlib.Core.Path.{_∙_}
 use native.Mathlib.Omega.{arith}
 use mir.Syntax.{w32}
 use mir.Facts.{toZ-ofZ, toZ-pos}
