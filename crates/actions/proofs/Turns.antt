@@ -28,7 +28,7 @@ use Rattle.receive.specs.declared.Received.{Received}
 use Rattle.receive.specs.Answers.{stateOf, received}
 use Rattle.receive.proofs.Laws.{received-refused, received-done}
 use Rattle.rules.specs.Answers.{refused, done}
-use Rattle.rules.specs.Effects as effects
+use Rattle.rules.specs.Effects.{Effect}
 use Rattle.rules.specs.Nodes.{Sound, behavioursOf, code, process, mailbox, row}
 use Rattle.rules.specs.Receive.{Fit, search, receivesFit, receives}
 use Rattle.rules.specs.Run.{runs}
@@ -262,7 +262,7 @@ module _ (n : Node) {a : Action} (t : Decoded) (m : Means a t) where
             turn-22 h = rule-undecided n a numbers awake waits-run (e .refusal) (decided-run ∙ rw (quiet, ne-eqb (e .refusal) 0 h))
 
             module _ (accepted : e .refusal ≡ 0) where
-              abbrev effect : effects.Effect
+              abbrev effect : Effect
               effect = record { process = e .process; mail = M; sent = sentOf e; born = bornOf i e }
 
               done-run : decide n a ≡ done effect
@@ -377,6 +377,6 @@ module _ (n : Node) {a : Action} (t : Decoded) (m : Means a t) where
                 pub turn-received : g .refusal ≡ 0 → rule n a ≡ done (stored n (set (n .processes) (t .at) (g .process)) (set (n .mail) (t .at) (g .mail)) (n .flight))
                 unfolding pairHasRoom numberFree
                 turn-received h =
-                    let effect : effects.Effect = record { process = g .process; mail = g .mail; sent = none; born = none } in
+                    let effect : Effect = record { process = g .process; mail = g .mail; sent = none; born = none } in
                     rule-done n a numbers awake waits-run effect (decided-recv ∙ received-done (stateOf P M) g fit found h) refl refl
                     ∙ rw (run-is, at-is) (ap done (commit-received n i (g .process) (g .mail)))

@@ -3,16 +3,20 @@ ghost use mathlib.Core.Bool.{_&&_, cond};
 ghost use mathlib.Core.Path.{_≡_};
 ghost use lib.Dec.{eqb, leb};
 ghost use Rattle.node.specs.Lists.{allOf};
-ghost use Rattle.node.specs.Values.{intZero, isNumber, valueSound};
+ghost use Rattle.node.specs.Values.{exactKind, intZero, isNumber, noteKind, valueSound};
 ghost use Rattle.rules.specs.Behaviours.{codeSound, dueNext, inRange, instruction};
 ghost use Rattle.behaviours.specs.Codes.{codesIn, hasTarget, placedBy};
 use node::BehaviourNumber;
 use node::CLAUSE;
 use node::EXACT;
+use node::NOTE;
 use node::Op;
 use node::ProcessNumber;
 use node::RECV;
 use node::Value;
+use node::is_number;
+use node::value_sound;
+use node::within;
 
 // All behaviours, of which there are `count`, in one loop over their ops: a call that takes `ops` copies 4 KB.
 pub fn behaviours_sound(count: u8, lens: [u8; 8], ops: [Op; 256]) -> bool
@@ -139,11 +143,11 @@ pub fn in_range(op: Op, count: u8, len: u8) -> bool
     }
 }
 
-// The kind of a clause; kind 5 has one exact value.
+// The kind of a clause; one kind has one exact value.
 pub fn clause_kind_sound(kind: u8, v: Value) -> bool
-    ensures { λ r. ⌜ r ≡ (leb kind 5 && valueSound (cond (eqb kind 5) v intZero)) ⌝ }
+    ensures { λ r. ⌜ r ≡ (leb kind noteKind && valueSound (cond (eqb kind exactKind) v intZero)) ⌝ }
 {
-    if 5 < kind {
+    if NOTE < kind {
         return false;
     }
     if kind == EXACT {
