@@ -3,7 +3,10 @@
 use super::show;
 use super::unsound;
 use super::unsound::refused;
+use node::ANY;
 use node::BehaviourNumber;
+use node::EXACT;
+use node::NOTE;
 use node::Node;
 use node::Op;
 use node::ProcessNumber;
@@ -159,10 +162,10 @@ fn smalls() {
     refused(b"31 a trap flag of 7", third(with_small(8, 7)));
     refused(b"31 a trap flag of 2", third(with_small(8, 2)));
     holds(b"sound: a trap flag of 1", third(with_small(8, 1)));
-    refused(b"31 a clause of no kind", clause(with_small(11, 6)));
+    refused(b"31 a clause of no kind", clause(with_small(11, NOTE + 1)));
     holds(
         b"sound: a clause of the last kind",
-        clause(with_small(11, 5)),
+        clause(with_small(11, NOTE)),
     );
 }
 
@@ -243,10 +246,13 @@ fn values() {
     refused(b"31 a set to p17", third(with_value(0, 0, pid(17))));
     holds(b"sound: a set to p16", third(with_value(0, 0, pid(16))));
     refused(b"31 a same with p17", third(with_value(13, 0, pid(17))));
-    refused(b"31 a clause of p17", clause(with_value(11, 5, pid(17))));
+    refused(
+        b"31 a clause of p17",
+        clause(with_value(11, EXACT, pid(17))),
+    );
     holds(
         b"sound: a clause of p16",
-        clause(with_value(11, 5, pid(16))),
+        clause(with_value(11, EXACT, pid(16))),
     );
 }
 
@@ -264,7 +270,7 @@ fn unread() {
     );
     holds(
         b"sound: a clause of any kind, with p17",
-        clause(with_value(11, 0, pid(17))),
+        clause(with_value(11, ANY, pid(17))),
     );
     let mut n = unsound::started();
     n.lens[1] = 33;

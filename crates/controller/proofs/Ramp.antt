@@ -24,7 +24,7 @@ use Rattle.node.specs.Ops.{stopOp, kindsOf}
 use Rattle.node.specs.Processes.{unborn, fresh, register, withRegister, moved, advanced, trapped, linksTo, linked, unlinked, ended, gone, withPlace}
 use Rattle.node.specs.Sets.{noPeers, bitsOf, has, withPeer, withoutPeer, lowestPeer}
 use Rattle.node.specs.Rows.{noSignal, emptyRow, signals, oldest, pushed, popped}
-use Rattle.node.specs.Values.{intZero, normal, kill, killed, badarith, pid, isNumber, fitsInt}
+use Rattle.node.specs.Values.{intZero, normal, kill, killed, badarith, pid, isNumber, fitsInt, intKind, atomKind, sameValue}
 use Rattle.node.specs.Texts.{bytes}
 use Rattle.rules.specs.Arrive.{arrives, exits}
 use Rattle.rules.specs.Behaviours.{operand, instruction, operandInRange, inRange, hasClauses, targetsFree, wellPlaced, codeSound}
@@ -52,7 +52,7 @@ ramp-ops : List Op
 ramp-ops =
     firsts stopOp 32 (opOf 3 0 1 0 0 intZero ∷ [])
     ++ firsts stopOp 32 (opOf 4 0 1 0 0 intZero ∷ [])
-    ++ firsts stopOp 32 (opOf 10 0 0 0 2 intZero ∷ opOf 11 0 1 3 2 intZero ∷ opOf 11 0 1 3 1 intZero ∷ [])
+    ++ firsts stopOp 32 (opOf 10 0 0 0 2 intZero ∷ opOf 11 0 1 3 atomKind intZero ∷ opOf 11 0 1 3 intKind intZero ∷ [])
     ++ firsts stopOp 32 (record { number = 9; r = 1; s = 0; target = 0; small = 0; value = intZero; process = record { 0 = 1 }; behaviour = record { 0 = 1 } } ∷ [])
     ++ replicate 128 stopOp
 
@@ -237,5 +237,5 @@ unfolding play played
 no-steps n h = rw h
 
 pub ramp : All table
-unfolding All Holds table arrival running refusing plain rower closed left world fives sender spawner unlinkedLinks linkTwo linkThree linkTwoThree sample started ramp-ops opOf play played step rule ready commit incoming decide at numbered ownerBorn signalWaits pairHasRoom numberFree sound shaped viewSound view behavioursOf code setOf has bitsOf standing runningSound rowSound receives fits runs runsLive runsOp closes arrives exits operand instruction operandInRange inRange hasClauses targetsFree wellPlaced codeSound isNumber fitsInt messages joined without emptied signals oldest pushed popped register withRegister moved advanced trapped linksTo linked unlinked withPeer withoutPeer lowestPeer ended gone kindsOf
+unfolding All Holds table arrival running refusing plain rower closed left world fives sender spawner unlinkedLinks linkTwo linkThree linkTwoThree sample started ramp-ops opOf play played step rule ready commit incoming decide at numbered ownerBorn signalWaits pairHasRoom numberFree sound shaped viewSound view behavioursOf code setOf has bitsOf standing runningSound rowSound receives fits runs runsLive runsOp closes arrives exits operand instruction operandInRange inRange hasClauses targetsFree wellPlaced codeSound isNumber fitsInt sameValue messages joined without emptied signals oldest pushed popped register withRegister moved advanced trapped linksTo linked unlinked withPeer withoutPeer lowestPeer ended gone kindsOf
 ramp = (no-steps, (sample-program, (refl, (refl, (refl, (refl, (refl, (refl, (refl, (refl, (refl, (refl, (refl, (refl, (refl, (refl, (refl, (refl, (refl, (refl, tt))))))))))))))))))))
