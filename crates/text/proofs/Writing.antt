@@ -6,7 +6,6 @@
 --   Left              what a loop still has to write; left-all at its start, left-more at each turn, left-none at its end
 --   left-byte left-bytes-end     the same for a loop over the bytes of a text
 --   left-item left-end           the same for a loop over the elements of a list
---   left-first left-firsts-end   the same for a loop over the first n elements of a list
 use mathlib.Core.List.{List, [], _∷_, _++_}
 use mathlib.Core.Logic.{⊎-elim}
 use mathlib.Core.Path.{_≡_, refl, sym, ap, _∙_}
@@ -14,8 +13,8 @@ use Prim.Native.Nat.{ℕ, suc, _+_, _≤_, _<_, min}
 use native.Mathlib.Nat.{add-zero, zero-add, add-suc, suc-add, eq-or-lt-of-le, min-le-right}
 use native.Mathlib.Numerals.{add-one}
 use native.Mathlib.Omega.{arith}
-use lib.ListN.{length, set, take, drop, getD, length-append, length-set, drop-of-length-le}
-use lib.Seq.{sets, length-sets, set-out, sets-eq, drop-cons, getD-take, length-take-le}
+use lib.ListN.{length, set, drop, getD, length-append, length-set, drop-of-length-le}
+use lib.Seq.{sets, length-sets, set-out, sets-eq, drop-cons}
 use Rattle.text.specs.Writing.{top, Wrote, each}
 use Rattle.text.proofs.Parts.{drop-at}
 
@@ -103,12 +102,3 @@ module _ {X : Type 0} (f : X → List ℕ) (xs : List X) (k : ℕ) {o text m : L
   pub left-end : length xs ≤ k → Wrote o a text m e
   unfolding each
   left-end h = left-none (rw (drop-of-length-le xs h) at p)
-
--- ---- the same for its first n elements
-module _ {X : Type 0} (f : X → List ℕ) (xs : List X) (n k : ℕ) {o text m : List ℕ} {a e : ℕ} (w : n ≤ length xs)
-    (p : Left o a text m e (each f (drop k (take n xs)))) where
-  pub left-first : (d : X) {u : List ℕ} {r : ℕ} → k < n → Wrote m e (f (getD xs k d)) u r → Left o a text u r (each f (drop (k + 1) (take n xs)))
-  left-first d h q = left-item f (take n xs) k p d (rw (length-take-le n xs w) h) (rw (getD-take n xs k d h) q)
-
-  pub left-firsts-end : n ≤ k → Wrote o a text m e
-  left-firsts-end h = left-end f (take n xs) k p (rw (length-take-le n xs w) h)
