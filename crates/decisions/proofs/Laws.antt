@@ -2,7 +2,7 @@
 -- lowest link. Assumes nothing.
 use mathlib.Core.Bool.{Bool, true, false, cond, _&&_, false≢true}
 use mathlib.Core.List.{List, []}
-use mathlib.Core.Option.{none, some}
+use mathlib.Core.Option.{Option, none, some}
 use mathlib.Core.Path.{_≡_, refl, sym, _∙_, ap}
 use Prim.Native.Nat.{ℕ, zero, suc, _+_, _-_, _≤_, _<_, min}
 use native.Mathlib.Omega.{arith}
@@ -22,42 +22,29 @@ use Rattle.node.specs.Mailboxes.{noMessage, emptyMailbox, messages, joined}
 use Rattle.node.specs.Nodes.{noOp}
 use Rattle.node.specs.Processes.{register, unlinked, ended}
 use Rattle.node.specs.declared.Value.{Value}
-use Rattle.node.specs.declared.Value.the-variants.{Int, Atom, Pid}
-use Rattle.node.specs.Values.{normal, badarg, badarith}
+use Rattle.node.specs.Values.{normal}
 use Rattle.rules.specs.Answers.{Answer}
 use Rattle.rules.specs.Arrive.{joinsWith, arrivesIn, arrives}
 use Rattle.rules.specs.Effects.{State, Effect, becomes, ends, sends}
 use Rattle.rules.specs.Receive.{receives}
-use Rattle.rules.specs.Run.{adds, compares, opTable, runsOp, runsLive, runsIn, runs, closesTo}
+use Rattle.rules.specs.Run.{onIntegers, opTable, runsOp, runsLive, runsIn, runs, closesTo}
 use Rattle.decisions.specs.Answers.{unread, tells, refusing, becoming, decisionOf, says, ranOp, codeAt, ran, arrived, integersOf}
 use Rattle.decisions.specs.declared.Pair.the-variants.{Not, Both}
 
-module _ (st : State) (r : ℕ) where
-  pub adds-not : (v w : Value) → integersOf v w ≡ Not → adds st r v w ≡ ends st badarith
-  adds-not (Int x) (Int y) e = absurd (let z : _≡_ {A = ℕ} 0 1 = cc e in omega arith)
-  adds-not (Int x) (Atom b) e = refl
-  adds-not (Int x) (Pid b) e = refl
-  adds-not (Atom a) w e = refl
-  adds-not (Pid a) w e = refl
+-- ---- two values, where both are integers, or not
 
-  pub compares-not : (v w : Value) → integersOf v w ≡ Not → compares st r v w ≡ ends st badarg
-  compares-not (Int x) (Int y) e = absurd (let z : _≡_ {A = ℕ} 0 1 = cc e in omega arith)
-  compares-not (Int x) (Atom b) e = refl
-  compares-not (Int x) (Pid b) e = refl
-  compares-not (Atom a) w e = refl
-  compares-not (Pid a) w e = refl
+module _ (st : State) (v : Value) (f : ℤ → ℤ → Answer Effect) where
+  pub integers-not : (a b : Option ℤ) → integersOf a b ≡ Not → onIntegers st v a b f ≡ ends st v
+  integers-not (some x) (some y) e = absurd (let z : _≡_ {A = ℕ} 0 1 = cc e in omega arith)
+  integers-not (some x) none e = refl
+  integers-not none b e = refl
 
--- two values that are both integers
-pub record AreInts (v w : Value) (x y : ℤ) : Type 0 where
-  pub left : v ≡ Int x
-  pub right : w ≡ Int y
+  pub integers-both : (a b : Option ℤ) (x y : ℤ) → integersOf a b ≡ Both x y → onIntegers st v a b f ≡ f x y
+  integers-both (some z) (some w) x y e = cc e
+  integers-both (some z) none x y e = absurd (let z : _≡_ {A = ℕ} 0 1 = cc e in omega arith)
+  integers-both none b x y e = absurd (let z : _≡_ {A = ℕ} 0 1 = cc e in omega arith)
 
-pub are-ints : (v w : Value) (x y : ℤ) → integersOf v w ≡ Both x y → AreInts v w x y
-are-ints (Int a) (Int b) x y e = record { left = cc e; right = cc e }
-are-ints (Int a) (Atom b) x y e = absurd (let z : _≡_ {A = ℕ} 0 1 = cc e in omega arith)
-are-ints (Int a) (Pid b) x y e = absurd (let z : _≡_ {A = ℕ} 0 1 = cc e in omega arith)
-are-ints (Atom a) w x y e = absurd (let z : _≡_ {A = ℕ} 0 1 = cc e in omega arith)
-are-ints (Pid a) w x y e = absurd (let z : _≡_ {A = ℕ} 0 1 = cc e in omega arith)
+-- ---- the last arm of a match
 
 -- a number that is none of 0 .. k - 1: what the last arm of a match with those arms knows
 abbrev pub Past : ℕ → ℕ → Type 0

@@ -12,9 +12,10 @@ use Prim.Native.Nat.{ℕ, zero, suc, _+_, _<_, min}
 use native.Mathlib.Omega.{arith}
 use borrow.Author.Tests.{leb-false, ltb-true, lt-ltb, le-ltb}
 use lib.Dec.{eqb, leb, ltb}
-use lib.IntN.{_+ℤ_}
+use lib.IntN.{ℤ, _+ℤ_}
 use lib.ListN.{length, getD}
 use lib.Seq.{getD-set-same}
+use lib.Signed.{ltZ}
 use Rattle.node.specs.declared.Mailbox.{Mailbox}
 use Rattle.node.specs.declared.Message.{Message}
 use Rattle.node.specs.declared.Op.{Op}
@@ -25,17 +26,17 @@ use Rattle.node.specs.declared.Signal.the-variants.{Msg, Exit, Link, Unlink}
 use Rattle.node.specs.declared.Stage.{Stage}
 use Rattle.node.specs.declared.Stage.the-variants.{Unborn, Live, Closing, Gone}
 use Rattle.node.specs.declared.Value.{Value}
-use Rattle.node.specs.declared.Value.the-variants.{Int, Atom, Pid}
+use Rattle.node.specs.declared.Value.the-variants.{Int}
 use Rattle.node.specs.Mailboxes.{noMessage, emptyMailbox, messages, joined}
 use Rattle.node.specs.Nodes.{noOp, noMailbox}
 use Rattle.node.specs.Processes.{register, advanced, linksTo, linked, unlinked}
 use Rattle.node.specs.Sets.{lowestPeer}
-use Rattle.node.specs.Values.{normal, kill, badarith, pid, fitsInt, sameValue}
+use Rattle.node.specs.Values.{normal, kill, badarg, badarith, pid, fitsInt, sameValue}
 use Rattle.rules.specs.Answers.{Answer, done, need, mailboxFull}
 use Rattle.rules.specs.Arrive.{joinsWith, exits, takes, arrivesIn, arrives}
 use Rattle.rules.specs.Effects.{State, Effect, becomes, ends, sends}
 use Rattle.rules.specs.Receive.{receives}
-use Rattle.rules.specs.Run.{setsRegister, adds, compares, processIn, toProcess, sendsTo, toOther, opTable, runsOp, closesTo, closes, runsLive, runsIn, runs}
+use Rattle.rules.specs.Run.{setsRegister, jumpsIf, integerIn, onIntegers, setsSum, adds, compares, processIn, toProcess, sendsTo, toOther, opTable, runsOp, closesTo, closes, runsLive, runsIn, runs}
 use Rattle.decisions.proofs.Laws.{ops-length, ops-op}
 use Rattle.receive.specs.Answers.{stateOf}
 use Rattle.decisions.specs.Answers.{unread, decisionOf, codeAt, ran, arrived, answerOf}
@@ -69,19 +70,17 @@ module _ (code : List Op) (i : ℕ) (p : Process) (m : Mailbox) where
   runs-cond true x y e f = e
   runs-cond false x y e f = f
 
+  runs-integers : (v : Value) (f : State → ℤ → ℤ → Answer Effect) → ((x y : ℤ) → Runs (f bare x y) (f st x y)) → (a b : Option ℤ) → Runs (onIntegers bare v a b (f bare)) (onIntegers st v a b (f st))
+  runs-integers v f h (some x) (some y) = h x y
+  runs-integers v f h (some x) none = (refl, refl)
+  runs-integers v f h none b = (refl, refl)
+
   runs-adds : (r : ℕ) (v w : Value) → Runs (adds bare r v w) (adds st r v w)
-  runs-adds r (Int x) (Int y) = runs-cond (fitsInt (x +ℤ y)) (setsRegister bare r (Int (x +ℤ y))) (ends bare badarith) (refl, refl) (refl, refl)
-  runs-adds r (Int x) (Atom b) = (refl, refl)
-  runs-adds r (Int x) (Pid b) = (refl, refl)
-  runs-adds r (Atom a) w = (refl, refl)
-  runs-adds r (Pid a) w = (refl, refl)
+  runs-adds r v w =
+      runs-integers badarith (λ t. setsSum t r) (λ x y. runs-cond (fitsInt (x +ℤ y)) (setsRegister bare r (Int (x +ℤ y))) (ends bare badarith) (refl, refl) (refl, refl)) (integerIn v) (integerIn w)
 
   runs-compares : (t : ℕ) (v w : Value) → Runs (compares bare t v w) (compares st t v w)
-  runs-compares t (Int x) (Int y) = (refl, refl)
-  runs-compares t (Int x) (Atom b) = (refl, refl)
-  runs-compares t (Int x) (Pid b) = (refl, refl)
-  runs-compares t (Atom a) w = (refl, refl)
-  runs-compares t (Pid a) w = (refl, refl)
+  runs-compares t v w = runs-integers badarg (λ s x y. jumpsIf s (ltZ x y) t) (λ x y. (refl, refl)) (integerIn v) (integerIn w)
 
   runs-to : (o : Option ℕ) (q : ℕ → Process) (x : Signal) → Runs (toProcess bare o (λ j. sends bare (advanced (q j)) j x)) (toProcess st o (λ j. sends st (advanced (q j)) j x))
   runs-to none q x = (refl, refl)

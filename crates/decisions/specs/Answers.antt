@@ -15,7 +15,7 @@
 --   answerOf code i st e   the rules' answer that record e tells of process i, in state st and with its code: of a run and of an arrival
 --   senderOf p x j         process p once it sends x to j: link and unlink change its own links
 --   sumOf z                the sum of two integers, where it is one too
---   integersOf v w         two values, where both are integers
+--   integersOf a b         two integers, where both are there
 use mathlib.Core.Bool.{Bool, true, false, cond}
 use mathlib.Core.List.{List, []}
 use mathlib.Core.Option.{Option, none, some, Option·getD}
@@ -30,8 +30,7 @@ use Rattle.node.specs.declared.Process.{Process}
 use Rattle.node.specs.declared.ProcessNumber.{ProcessNumber}
 use Rattle.node.specs.declared.Signal.{Signal}
 use Rattle.node.specs.declared.Signal.the-variants.{Msg, Exit, Link, Unlink}
-use Rattle.node.specs.declared.Value.{Value}
-use Rattle.node.specs.declared.Value.the-variants.{Int, Atom, Pid}
+use Rattle.node.specs.declared.Value.the-variants.{Int}
 use Rattle.node.specs.Mailboxes.{noMessage, emptyMailbox, joined}
 use Rattle.node.specs.Nodes.{noOp, noProcess}
 use Rattle.node.specs.Processes.{fresh, linked, unlinked}
@@ -144,9 +143,7 @@ senderOf p Unlink j = unlinked p j
 abbrev pub sumOf : ℤ → Sum
 sumOf z = cond (fitsInt z) (record { fits = true; total = Int z }) (record { fits = false; total = intZero })
 
-abbrev pub integersOf : Value → Value → Pair
-integersOf (Int x) (Int y) = Both x y
-integersOf (Int x) (Atom b) = Not
-integersOf (Int x) (Pid b) = Not
-integersOf (Atom a) w = Not
-integersOf (Pid a) w = Not
+abbrev pub integersOf : Option ℤ → Option ℤ → Pair
+integersOf (some x) (some y) = Both x y
+integersOf (some x) none = Not
+integersOf none y = Not

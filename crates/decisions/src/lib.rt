@@ -5,11 +5,10 @@ ghost use Prim.Native.Nat.{ℕ};
 ghost use lib.Dec.{eqb};
 ghost use lib.IntN.{_+ℤ_};
 ghost use Rattle.node.specs.declared.Signal.the-variants.{Msg, Exit, Link, Unlink};
-ghost use Rattle.node.specs.declared.Value.the-variants.{Int};
 ghost use Rattle.node.specs.Processes.{register, moved, advanced, trapped, linked, unlinked, ended};
 ghost use Rattle.node.specs.Values.{pid, normal, kill, badarg, sameValue};
 ghost use Rattle.rules.specs.Effects.{becomes, ends};
-ghost use Rattle.rules.specs.Run.{setsRegister, jumpsIf, adds, compares, sendsTo, toOther, spawns, closes, runsLive};
+ghost use Rattle.rules.specs.Run.{setsRegister, jumpsIf, integerIn, setsSum, adds, compares, sendsTo, toOther, spawns, closes, runsLive};
 ghost use Rattle.rules.specs.Arrive.{joinsWith, notes, exits, takes};
 ghost use Rattle.decisions.specs.Answers.{refusing, becoming, searching, sendingTo, says, codeAt, senderOf};
 ghost use Rattle.decisions.specs.Answers.{ranOp, ran, arrived, sumOf, integersOf};
@@ -190,9 +189,9 @@ fn total_of(x: i32, y: i32) -> Sum
     }
 }
 
-// Two integers whose sum is one go to register r; anything else ends the process.
+// The sum of two integers goes to register r, where it is one too; else the process ends.
 fn add(p: Process, r: u8, x: i32, y: i32) -> Decision
-    ensures { λ e. ⌜ e ≡ says p 0 (λ st. adds st r (Int x) (Int y)) ⌝ }
+    ensures { λ e. ⌜ e ≡ says p 0 (λ st. setsSum st r x y) ⌝ }
 {
     let s = total_of(x, y);
     let fits = s.fits;
@@ -203,14 +202,14 @@ fn add(p: Process, r: u8, x: i32, y: i32) -> Decision
     Decision::becomes(p.ended(Value::BADARITH))
 }
 
-// Whether two values are both integers.
+// Two values, where both are integers.
 enum Pair {
     Not,
     Both(i32, i32),
 }
 
 fn integers(v: Value, w: Value) -> Pair
-    ensures { λ r. ⌜ r ≡ integersOf v w ⌝ }
+    ensures { λ r. ⌜ r ≡ integersOf (integerIn v) (integerIn w) ⌝ }
 {
     match v {
         Value::Int(x) => match w {

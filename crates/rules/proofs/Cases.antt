@@ -30,7 +30,7 @@ use Rattle.rules.specs.Answers.{Answer, refused, done, need, mailboxFull
 use Rattle.rules.specs.Arrive.{joinsWith, notes, exits, takes, arrivesIn, arrives}
 use Rattle.rules.specs.Effects.{State, Effect, becomes, ends, sends}
 use Rattle.rules.specs.Receive.{Fit, search, receivesFit, receives}
-use Rattle.rules.specs.Run.{setsRegister, jumpsIf, adds, compares, processIn, toProcess, sendsTo, toOther, runsOp, closesTo, closes, runsLive, runsIn, runs}
+use Rattle.rules.specs.Run.{setsRegister, jumpsIf, integerIn, onIntegers, setsSum, adds, compares, processIn, toProcess, sendsTo, toOther, runsOp, closesTo, closes, runsLive, runsIn, runs}
 use Rattle.rules.proofs.All.{both}
 
 -- a value that names process j is its number
@@ -46,23 +46,20 @@ module _ (st : State) (P : Answer Effect → Type 0) where
   jumps-any t h g true = h
   jumps-any t h g false = g
 
+  integers-any : (v : Value) (f : ℤ → ℤ → Answer Effect) → ((x y : ℤ) → P (f x y)) → P (ends st v) → (a b : Option ℤ) → P (onIntegers st v a b f)
+  integers-any v f h g (some x) (some y) = h x y
+  integers-any v f h g (some x) none = g
+  integers-any v f h g none b = g
+
   pub adds-any : (r : ℕ) → ((z : ℤ) → So (fitsInt z) → P (setsRegister st r (Int z))) → P (ends st badarith) → (v w : Value) → P (adds st r v w)
-  adds-any r h g (Int x) (Int y) = go (fitsInt (x +ℤ y)) refl
+  adds-any r h g v w = integers-any badarith (setsSum st r) (λ x y. go (x +ℤ y) (fitsInt (x +ℤ y)) refl) g (integerIn v) (integerIn w)
     where
-      go : (b : Bool) → fitsInt (x +ℤ y) ≡ b → P (cond b (setsRegister st r (Int (x +ℤ y))) (ends st badarith))
-      go true e = h (x +ℤ y) e
-      go false e = g
-  adds-any r h g (Int x) (Atom y) = g
-  adds-any r h g (Int x) (Pid y) = g
-  adds-any r h g (Atom x) w = g
-  adds-any r h g (Pid x) w = g
+      go : (z : ℤ) (b : Bool) → fitsInt z ≡ b → P (cond b (setsRegister st r (Int z)) (ends st badarith))
+      go z true e = h z e
+      go z false e = g
 
   pub compares-any : (t : ℕ) → ((b : Bool) → P (jumpsIf st b t)) → P (ends st badarg) → (v w : Value) → P (compares st t v w)
-  compares-any t h g (Int x) (Int y) = h (ltZ x y)
-  compares-any t h g (Int x) (Atom y) = g
-  compares-any t h g (Int x) (Pid y) = g
-  compares-any t h g (Atom x) w = g
-  compares-any t h g (Pid x) w = g
+  compares-any t h g v w = integers-any badarg (λ x y. jumpsIf st (ltZ x y) t) (λ x y. h (ltZ x y)) g (integerIn v) (integerIn w)
 
   pub sendsTo-any : (v : Value) (q : ℕ → Process) (x : Signal) → ((j : ℕ) → v ≡ pid j → P (sends st (advanced (q j)) j x)) → P (ends st badarg) → P (sendsTo st v q x)
   sendsTo-any v q x h g = go (processIn v) refl

@@ -26,7 +26,9 @@ unfoldable pub sample : Process → Process → Node
 sample p q = record {
   count = 2;
   lens = 3 ∷ 2 ∷ replicate 6 0;
-  ops = firsts stopOp 32 (opOf 0 0 0 0 0 (pid 2) ∷ opOf 0 1 0 0 0 (int 12) ∷ opOf 4 0 1 0 0 intZero ∷ []) ++ firsts stopOp 32 (opOf 10 0 0 0 1 intZero ∷ opOf 11 0 1 2 intKind intZero ∷ []) ++ replicate 192 stopOp;
+  ops = firsts stopOp 32 (opOf 0 0 0 0 0 (pid 2) ∷ opOf 0 1 0 0 0 (int 12) ∷ opOf 4 0 1 0 0 intZero ∷ [])
+      ++ firsts stopOp 32 (opOf 10 0 0 0 1 intZero ∷ opOf 11 0 1 2 intKind intZero ∷ [])
+      ++ replicate 192 stopOp;
   processes = p ∷ q ∷ replicate 14 unborn;
   mail = replicate 16 emptyMailbox;
   flight = replicate 256 emptyRow;

@@ -1,7 +1,11 @@
 -- Running (document 01, "Run, live", "Ending" and "Run, closing").
---   processIn v          the process that value v names
---   sendsTo st v q x     sends x to the process j that v names, and becomes q j
---   toOther i st v a     answer a, where v is not process i's own number
+--   integerIn v          the integer that value v is, if it is one
+--   processIn v          the process that value v names, if it names one
+--   onIntegers           what is done with two integers; the process ends where one of them is none
+--   setsRegister, jumpsIf, setsSum, adds, compares, spawns   what single ops do
+--   toProcess            what is done with the process that a value names; the process ends where it names none
+--   sendsTo st v q x     x is sent to the process j that v names, by a process that becomes q j
+--   toOther i st v a     answer a, where v is not process i's own number; else nothing but the place changes
 --   opTable, runsOp      what process i does at op o of its code, by the op's number
 --   closes st            what a closing process does
 --   runs code i st       what a run of process i does; code is that of its behaviour
@@ -10,7 +14,7 @@ use mathlib.Core.List.{List, [], _∷_}
 use mathlib.Core.Option.{Option, none, some}
 use Prim.Native.Nat.{ℕ, zero, suc}
 use lib.Dec.{leb, eqb}
-use lib.IntN.{_+ℤ_}
+use lib.IntN.{ℤ, _+ℤ_}
 use lib.ListN.{length, getD}
 use lib.Signed.{ltZ}
 use Rattle.node.specs.declared.Op.{Op}
@@ -36,21 +40,28 @@ setsRegister st r v = becomes st (advanced (withRegister (st .process) r v))
 abbrev pub jumpsIf : State → Bool → ℕ → Answer Effect
 jumpsIf st b t = becomes st (cond b (moved (st .process) t) (advanced (st .process)))
 
+-- the one function that knows which values are integers
+abbrev pub integerIn : Value → Option ℤ
+integerIn (Int z) = some z
+integerIn (Atom a) = none
+integerIn (Pid j) = none
+
+-- "not both integers": ends with v
+abbrev pub onIntegers : State → Value → Option ℤ → Option ℤ → (ℤ → ℤ → Answer Effect) → Answer Effect
+onIntegers st v (some x) (some y) f = f x y
+onIntegers st v (some x) none f = ends st v
+onIntegers st v none y f = ends st v
+
 -- "not both integers, or sum outside i: ends with a4"
+abbrev pub setsSum : State → ℕ → ℤ → ℤ → Answer Effect
+setsSum st r x y = cond (fitsInt (x +ℤ y)) (setsRegister st r (Int (x +ℤ y))) (ends st badarith)
+
 abbrev pub adds : State → ℕ → Value → Value → Answer Effect
-adds st r (Int x) (Int y) = cond (fitsInt (x +ℤ y)) (setsRegister st r (Int (x +ℤ y))) (ends st badarith)
-adds st r (Int x) (Atom b) = ends st badarith
-adds st r (Int x) (Pid b) = ends st badarith
-adds st r (Atom a) w = ends st badarith
-adds st r (Pid a) w = ends st badarith
+adds st r v w = onIntegers st badarith (integerIn v) (integerIn w) (setsSum st r)
 
 -- "not both integers: ends with a3"
 abbrev pub compares : State → ℕ → Value → Value → Answer Effect
-compares st t (Int x) (Int y) = jumpsIf st (ltZ x y) t
-compares st t (Int x) (Atom b) = ends st badarg
-compares st t (Int x) (Pid b) = ends st badarg
-compares st t (Atom a) w = ends st badarg
-compares st t (Pid a) w = ends st badarg
+compares st t v w = onIntegers st badarg (integerIn v) (integerIn w) (λ x y. jumpsIf st (ltZ x y) t)
 
 -- the one function that knows which values are process numbers
 abbrev pub processIn : Value → Option ℕ

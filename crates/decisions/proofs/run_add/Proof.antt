@@ -2,8 +2,10 @@
 use mathlib.Core.Path.{sym, _∙_, ap}
 use mir.Syntax.{w32}
 use mir.ValLaws.{toZ-ofZ}
+use Rattle.node.specs.Values.{badarith}
+use Rattle.rules.specs.Run.{integerIn, setsSum}
 use Rattle.decisions.specs.Answers.{unread, decisionOf}
-use Rattle.decisions.proofs.Laws.{adds-not, are-ints}
+use Rattle.decisions.proofs.Laws.{integers-not, integers-both}
 use borrow.Author.Needs.{needs}
 use Rattle.decisions.proofs.run_add.Statement.{statement}
 use Rattle.decisions.proofs.run_add.Tie as tie
@@ -34,26 +36,25 @@ add-requires c κs = search needs
 
 returns : tie.Need-returns
 returns c =
-    let its-becomes = c .becomes in
-    let its-ended = c .before .ended in
-    let its-register = c .before .before .before .before .before .before .register in
-    let its-register2 = c .before .before .before .before .before .register2 in
     let its-args = c .before .before .before .before .before .before .before .args in
-    let its-integers = c .before .before .before .before .integers in
-    let its-enum-told = c .before .before .enum-told in
-    let not-both = adds-not (unread (its-args .p) 0) (its-args .op .r) (its-register .result) (its-register2 .result) (sym (its-integers .ensures) ∙ its-enum-told .given .1) in
-    rw (its-becomes .ensures, its-ended .ensures, ← its-register .ensures, ← its-register2 .ensures) (sym (ap (decisionOf (unread (its-args .p) 0)) not-both))
+    let v = c .before .before .before .before .before .before .register in
+    let w = c .before .before .before .before .before .register2 in
+    let not-both = sym (c .before .before .before .before .integers .ensures) ∙ c .before .before .enum-told .given .1 in
+    let state = unread (its-args .p) 0 in
+    let ends = integers-not state badarith (setsSum state (its-args .op .r)) (integerIn (v .result)) (integerIn (w .result)) not-both in
+    rw (c .becomes .ensures, c .before .ended .ensures, ← v .ensures, ← w .ensures) (sym (ap (decisionOf state) ends))
 
 returns-2 : tie.Need-returns-2
 returns-2 c =
-    let its-register = c .before .before .before .before .before .before .register in
-    let its-register2 = c .before .before .before .before .before .register2 in
-    let its-both = c .before .before .both in
-    let its-integers = c .before .before .before .before .integers in
-    let its-add = c .add in
-    let a = are-ints (its-register .result) (its-register2 .result) (its-both .given .0 .0) (its-both .given .0 .1 .0) (sym (its-integers .ensures) ∙ its-both .given .1) in
-    its-add .ensures
-    ∙ rw (← its-register .ensures, ← its-register2 .ensures, a .left, a .right, toZ-ofZ w32 (its-both .given .0 .0) (search needs), toZ-ofZ w32 (its-both .given .0 .1 .0) (search needs))
+    let its-args = c .before .before .before .before .before .before .before .args in
+    let v = c .before .before .before .before .before .before .register in
+    let w = c .before .before .before .before .before .register2 in
+    let both = c .before .before .both .given in
+    let are-both = sym (c .before .before .before .before .integers .ensures) ∙ both .1 in
+    let state = unread (its-args .p) 0 in
+    let goes = integers-both state badarith (setsSum state (its-args .op .r)) (integerIn (v .result)) (integerIn (w .result)) (both .0 .0) (both .0 .1 .0) are-both in
+    c .add .ensures
+    ∙ rw (toZ-ofZ w32 (both .0 .0) (search needs), toZ-ofZ w32 (both .0 .1 .0) (search needs), ← v .ensures, ← w .ensures) (sym (ap (decisionOf state) goes))
 
 pub run-add-spec : {M : Type 1} → statement M
 run-add-spec =

@@ -2,8 +2,11 @@
 use mathlib.Core.Path.{sym, _∙_, ap}
 use mir.Syntax.{w32}
 use mir.ValLaws.{toZ-ofZ}
+use lib.Signed.{ltZ}
+use Rattle.node.specs.Values.{badarg}
+use Rattle.rules.specs.Run.{integerIn, jumpsIf}
 use Rattle.decisions.specs.Answers.{unread, decisionOf}
-use Rattle.decisions.proofs.Laws.{compares-not, are-ints}
+use Rattle.decisions.proofs.Laws.{integers-not, integers-both}
 use borrow.Author.Needs.{needs}
 use Rattle.decisions.proofs.run_less.Statement.{statement}
 use Rattle.decisions.proofs.run_less.Tie as tie
@@ -31,25 +34,25 @@ jump-if-requires c κs = search needs
 
 returns : tie.Need-returns
 returns c =
-    let its-end-badarg = c .end-badarg in
-    let its-register = c .before .before .before .before .before .register in
-    let its-register2 = c .before .before .before .before .register2 in
     let its-args = c .before .before .before .before .before .before .args in
-    let its-integers = c .before .before .before .integers in
-    let its-enum-told = c .before .enum-told in
-    let not-both = compares-not (unread (its-args .p) 0) (its-args .op .target) (its-register .result) (its-register2 .result) (sym (its-integers .ensures) ∙ its-enum-told .given .1) in
-    rw (its-end-badarg .ensures, ← its-register .ensures, ← its-register2 .ensures) (sym (ap (decisionOf (unread (its-args .p) 0)) not-both))
+    let v = c .before .before .before .before .before .register in
+    let w = c .before .before .before .before .register2 in
+    let not-both = sym (c .before .before .before .integers .ensures) ∙ c .before .enum-told .given .1 in
+    let state = unread (its-args .p) 0 in
+    let ends = integers-not state badarg (λ x y. jumpsIf state (ltZ x y) (its-args .op .target)) (integerIn (v .result)) (integerIn (w .result)) not-both in
+    rw (c .end-badarg .ensures, ← v .ensures, ← w .ensures) (sym (ap (decisionOf state) ends))
 
 returns-2 : tie.Need-returns-2
 returns-2 c =
-    let its-register = c .before .before .before .before .before .before .register in
-    let its-register2 = c .before .before .before .before .before .register2 in
-    let its-both = c .before .before .both in
-    let its-integers = c .before .before .before .before .integers in
-    let its-jump-if = c .jump-if in
-    let a = are-ints (its-register .result) (its-register2 .result) (its-both .given .0 .0) (its-both .given .0 .1 .0) (sym (its-integers .ensures) ∙ its-both .given .1) in
-    its-jump-if .ensures
-    ∙ rw (← its-register .ensures, ← its-register2 .ensures, a .left, a .right, toZ-ofZ w32 (its-both .given .0 .0) (search needs), toZ-ofZ w32 (its-both .given .0 .1 .0) (search needs))
+    let its-args = c .before .before .before .before .before .before .before .args in
+    let v = c .before .before .before .before .before .before .register in
+    let w = c .before .before .before .before .before .register2 in
+    let both = c .before .before .both .given in
+    let are-both = sym (c .before .before .before .before .integers .ensures) ∙ both .1 in
+    let state = unread (its-args .p) 0 in
+    let goes = integers-both state badarg (λ x y. jumpsIf state (ltZ x y) (its-args .op .target)) (integerIn (v .result)) (integerIn (w .result)) (both .0 .0) (both .0 .1 .0) are-both in
+    c .jump-if .ensures
+    ∙ rw (toZ-ofZ w32 (both .0 .0) (search needs), toZ-ofZ w32 (both .0 .1 .0) (search needs), ← v .ensures, ← w .ensures) (sym (ap (decisionOf state) goes))
 
 pub run-less-spec : {M : Type 1} → statement M
 run-less-spec =
