@@ -8,8 +8,10 @@
 --   kindsOf n          what the operands of op n are; none where n is no op
 --   operandKind n k    what operand k of op n is
 --   kindsIn x          what operands an op of shape x has
+--   isPlace k          an operand of kind k is a place
 --   recvOp clauseOp    the places of recv and clause in the table
 --   stopOp             the op `stop,0`
+use mathlib.Core.Bool.{Bool, true, false}
 use mathlib.Core.List.{List, [], _∷_, map}
 use Prim.Native.Nat.{ℕ}
 use Prim.Native.String.{String}
@@ -80,6 +82,18 @@ kindsIn KRST = KindK ∷ RegisterR ∷ RegisterS ∷ PlaceT ∷ []
 kindsIn T = PlaceT ∷ []
 kindsIn RVT = RegisterR ∷ ValueV ∷ PlaceT ∷ []
 kindsIn RST = RegisterR ∷ RegisterS ∷ PlaceT ∷ []
+
+abbrev pub isPlace : OperandKind → Bool
+isPlace NoOperand = false
+isPlace RegisterR = false
+isPlace RegisterS = false
+isPlace ValueV = false
+isPlace PlaceT = true
+isPlace BehaviourB = false
+isPlace ProcessQ = false
+isPlace FlagF = false
+isPlace CountN = false
+isPlace KindK = false
 
 -- places in the table
 abbrev pub recvOp : ℕ
