@@ -5,12 +5,12 @@ ghost use Prim.Native.Nat.{_<_, min};
 ghost use Rattle.rules.specs.Steps.{isUnborn, meaning, numbered};
 ghost use Rattle.actions.specs.Numbers.{encode, decode};
 ghost use Rattle.actions.specs.Places.{processAt, rowAt, behaviourAt, opAt, decodedOf};
-use behaviours::is_number;
 use node::BehaviourNumber;
 use node::Process;
 use node::ProcessNumber;
 use node::Stage;
 use node::Step;
+use node::is_number;
 
 // What the number of a step says: whether a process number in it is none (20), whether it is an arrival, whose it is, from whom, and where
 // the owner's process and the row stand.

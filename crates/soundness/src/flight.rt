@@ -11,8 +11,8 @@ pub fn signal_sound(j: ProcessNumber, i: ProcessNumber, x: Signal) -> bool
     ensures { λ r. ⌜ r ≡ signalSound (j .0) (i .0) x ⌝ }
 {
     match x {
-        Signal::Msg(v) => behaviours::value_sound(v),
-        Signal::Exit(v, _) => behaviours::value_sound(v),
+        Signal::Msg(v) => node::value_sound(v),
+        Signal::Exit(v, _) => node::value_sound(v),
         Signal::Link => j.0 != i.0,
         Signal::Unlink => j.0 != i.0,
     }

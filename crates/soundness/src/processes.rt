@@ -94,7 +94,7 @@ pub fn process_sound(
         }
         Stage::Closing => {
             let reason = p.reason;
-            if !behaviours::value_sound(reason) {
+            if !node::value_sound(reason) {
                 return false;
             }
             !in_set(links, i)
@@ -108,7 +108,7 @@ pub fn running_sound(p: Process, m: Mailbox, count: u8, lens: [u8; 8], there: u8
 {
     let b = p.behaviour;
     let number = b.0;
-    if !behaviours::within(number, 1, count) {
+    if !node::within(number, 1, count) {
         return false;
     }
     if code_len(count, lens, p) < p.place {
@@ -128,7 +128,7 @@ pub fn in_set(set: Peers, j: ProcessNumber) -> bool
     ensures { λ r. ⌜ r ≡ setOf set (j .0) ⌝ }
 {
     let number = j.0;
-    if !behaviours::is_number(number) {
+    if !node::is_number(number) {
         return false;
     }
     set.has(j)

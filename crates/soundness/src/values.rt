@@ -7,11 +7,11 @@ ghost use lib.ListN.{length};
 ghost use Rattle.node.specs.Lists.{allOf};
 ghost use Rattle.node.specs.Mailboxes.{messages};
 ghost use Rattle.node.specs.Values.{messageSound, valueSound};
-use behaviours::is_number;
-use behaviours::value_sound;
 use node::Mailbox;
 use node::Message;
 use node::Process;
+use node::is_number;
+use node::value_sound;
 
 pub fn message_sound(m: Message) -> bool
     ensures { λ r. ⌜ r ≡ messageSound m ⌝ }
