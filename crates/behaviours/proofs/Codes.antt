@@ -14,7 +14,7 @@ use Rattle.node.specs.declared.OperandKind.{OperandKind}
 use Rattle.node.specs.declared.OperandKind.the-variants.{NoOperand, RegisterR, RegisterS, ValueV, PlaceT, BehaviourB, ProcessQ, FlagF, CountN, KindK}
 use Rattle.node.specs.Lists.{allOf}
 use Rattle.node.specs.Nodes.{noOp}
-use Rattle.node.specs.Ops.{clauseOp, isPlace, kindsOf, recvOp}
+use Rattle.node.specs.Ops.{clauseOp, isKind, kindsOf, recvOp}
 use Rattle.node.proofs.Lists.{allTwo-map, getD-in, held-at, held-length, map-rising-at, map-rising-length}
 use Rattle.rules.specs.Behaviours.{Instruction, clauseCount, instruction, noInstruction, numeric, onClause, operand, targetsFree}
 use Rattle.behaviours.specs.Codes.{codeIn, codesIn, hasTarget}
@@ -46,7 +46,7 @@ on-clause-at n ops k t h =
     ap (λ (x : Instruction). eqb (x .number) clauseOp) (getD-in (codeIn n ops k) t noInstruction (instruction noOp) l ∙ code-at n ops k t h)
 
 -- one operand after the other, for a test q of a target
-one-kind : (o : Op) (q : ℕ → Bool) (kind : OperandKind) (a : Bool) → ((not (isPlace kind) || q (operand o kind .number)) && cond (not a) (q (o .target)) true) ≡ cond (not (not (isPlace kind) && a)) (q (o .target)) true
+one-kind : (o : Op) (q : ℕ → Bool) (kind : OperandKind) (a : Bool) → ((not (isKind PlaceT kind) || q (operand o kind .number)) && cond (not a) (q (o .target)) true) ≡ cond (not (not (isKind PlaceT kind) && a)) (q (o .target)) true
 unfolding operand
 one-kind o q NoOperand a = refl
 one-kind o q RegisterR a = refl
@@ -64,10 +64,10 @@ one-kind o q PlaceT a = twice a (q (o .target))
     twice true true = refl
     twice false true = refl
 
-all-kinds : (o : Op) (q : ℕ → Bool) (ks : List OperandKind) → allOf (λ (kind : OperandKind). not (isPlace kind) || q (operand o kind .number)) ks ≡ cond (not (allOf (λ (kind : OperandKind). not (isPlace kind)) ks)) (q (o .target)) true
+all-kinds : (o : Op) (q : ℕ → Bool) (ks : List OperandKind) → allOf (λ (kind : OperandKind). not (isKind PlaceT kind) || q (operand o kind .number)) ks ≡ cond (not (allOf (λ (kind : OperandKind). not (isKind PlaceT kind)) ks)) (q (o .target)) true
 all-kinds o q [] = refl
 all-kinds o q (kind ∷ ks) =
-    ap (λ (b : Bool). (not (isPlace kind) || q (operand o kind .number)) && b) (all-kinds o q ks) ∙ one-kind o q kind (allOf (λ (k : OperandKind). not (isPlace k)) ks)
+    ap (λ (b : Bool). (not (isKind PlaceT kind) || q (operand o kind .number)) && b) (all-kinds o q ks) ∙ one-kind o q kind (allOf (λ (k : OperandKind). not (isKind PlaceT k)) ks)
 
 landed : (code : List Instruction) (h : Bool) (t : ℕ) → cond h (not (onClause code t)) true ≡ not (onClause code (cond h t (length code)))
 landed code true t = refl
@@ -76,7 +76,7 @@ landed code false t = rw (on-clause-end code (length code) (omega arith))
 target-free : (code : List Instruction) (o : Op) → targetsFree code (instruction o) ≡ not (onClause code (cond (hasTarget (o .number)) (o .target) (length code)))
 unfolding targetsFree instruction hasTarget
 target-free code o =
-    allTwo-map (λ kind x. not (isPlace kind) || not (onClause code (x .number))) (operand o) (kindsOf (o .number))
+    allTwo-map (λ kind x. not (isKind PlaceT kind) || not (onClause code (x .number))) (operand o) (kindsOf (o .number))
     ∙ all-kinds o (λ t. not (onClause code t)) (kindsOf (o .number))
     ∙ landed code (hasTarget (o .number)) (o .target)
 

@@ -10,9 +10,10 @@ use borrow.Author.Tests.{lt-ltb}
 use lib.Dec.{ltb}
 use Rattle.node.specs.declared.Op.{Op}
 use Rattle.node.specs.declared.OperandKind.{OperandKind}
+use Rattle.node.specs.declared.OperandKind.the-variants.{PlaceT}
 use Rattle.node.specs.declared.Shape.{Shape}
 use Rattle.node.specs.Lists.{allOf}
-use Rattle.node.specs.Ops.{isPlace, kindsIn, kindsOf, opCount}
+use Rattle.node.specs.Ops.{isKind, kindsIn, kindsOf, opCount}
 use Rattle.node.proofs.Lists.{allTwo-map}
 use Rattle.node.proofs.Ops.{op-some, some}
 use Rattle.rules.specs.Behaviours.{inRange, instruction, operand, operandInRange}
@@ -23,9 +24,9 @@ module _ (n : ℕ) {y : Shape} (shaped : kindsIn y ≡ kindsOf n) (x : Shape) (i
   by-shape : kindsIn x ≡ kindsOf n
   by-shape = sym (ap kindsIn is) ∙ shaped
 
-  pub target-at : {r : Bool} → r ≡ not (allOf (λ (kind : OperandKind). not (isPlace kind)) (kindsIn x)) → r ≡ hasTarget n
+  pub target-at : {r : Bool} → r ≡ not (allOf (λ (kind : OperandKind). not (isKind PlaceT kind)) (kindsIn x)) → r ≡ hasTarget n
   unfolding hasTarget
-  target-at e = e ∙ ap (λ (ks : List OperandKind). not (allOf (λ (kind : OperandKind). not (isPlace kind)) ks)) by-shape
+  target-at e = e ∙ ap (λ (ks : List OperandKind). not (allOf (λ (kind : OperandKind). not (isKind PlaceT kind)) ks)) by-shape
 
 module _ (o : Op) (c n : ℕ) where
   abbrev fit : List OperandKind → Bool

@@ -1,5 +1,7 @@
 -- Ops (instructions; document 01, "Run, live"): one table, a row to an op. An op's number is its row's place, the first being 0; all that
 -- goes by the number is computed from the table.
+--   letter k           document 01's letter for an operand of kind k
+--   isKind j k         kind k is j
 --   OpForm form w ks   how an op is written: its word, and what its operands are, in their order
 --   opForms            the table
 --   opCount            how many ops there are
@@ -8,13 +10,14 @@
 --   kindsOf n          what the operands of op n are; none where n is no op
 --   operandKind n k    what operand k of op n is
 --   kindsIn x          what operands an op of shape x has
---   isPlace k          an operand of kind k is a place
 --   recvOp clauseOp    the places of recv and clause in the table
 --   stopOp             the op `stop,0`
-use mathlib.Core.Bool.{Bool, true, false}
+use mathlib.Core.Bool.{Bool}
 use mathlib.Core.List.{List, [], _∷_, map}
 use Prim.Native.Nat.{ℕ}
+use Prim.Native.Char.{code}
 use Prim.Native.String.{String}
+use lib.Dec.{eqb}
 use lib.ListN.{length, getD}
 use Rattle.node.specs.declared.Op.{Op}
 use Rattle.node.specs.declared.OperandKind.{OperandKind}
@@ -23,6 +26,21 @@ use Rattle.node.specs.declared.Shape.{Shape}
 use Rattle.node.specs.declared.Shape.the-variants.{Nothing, R, RS, RV, F, RBQ, N, KRST, T, RVT, RST}
 use Rattle.node.specs.Texts.{bytes}
 use Rattle.node.specs.Values.{intZero}
+
+abbrev pub letter : OperandKind → ℕ
+letter NoOperand = 0
+letter RegisterR = code "r"
+letter RegisterS = code "s"
+letter ValueV = code "V"
+letter PlaceT = code "t"
+letter BehaviourB = code "b"
+letter ProcessQ = code "q"
+letter FlagF = code "f"
+letter CountN = code "n"
+letter KindK = code "k"
+
+abbrev pub isKind : OperandKind → OperandKind → Bool
+isKind j k = eqb (letter j) (letter k)
 
 pub record OpForm : Type 0 where
   pub word : List ℕ
@@ -82,18 +100,6 @@ kindsIn KRST = KindK ∷ RegisterR ∷ RegisterS ∷ PlaceT ∷ []
 kindsIn T = PlaceT ∷ []
 kindsIn RVT = RegisterR ∷ ValueV ∷ PlaceT ∷ []
 kindsIn RST = RegisterR ∷ RegisterS ∷ PlaceT ∷ []
-
-abbrev pub isPlace : OperandKind → Bool
-isPlace NoOperand = false
-isPlace RegisterR = false
-isPlace RegisterS = false
-isPlace ValueV = false
-isPlace PlaceT = true
-isPlace BehaviourB = false
-isPlace ProcessQ = false
-isPlace FlagF = false
-isPlace CountN = false
-isPlace KindK = false
 
 -- places in the table
 abbrev pub recvOp : ℕ

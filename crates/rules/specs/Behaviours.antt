@@ -14,7 +14,7 @@ use Rattle.node.specs.declared.OperandKind.{OperandKind}
 use Rattle.node.specs.declared.OperandKind.the-variants.{NoOperand, RegisterR, RegisterS, ValueV, PlaceT, BehaviourB, ProcessQ, FlagF, CountN, KindK}
 use Rattle.node.specs.declared.Value.{Value}
 use Rattle.node.specs.Lists.{allFrom, allOf, allTwo}
-use Rattle.node.specs.Ops.{kindsOf, isPlace, opCount, recvOp, clauseOp}
+use Rattle.node.specs.Ops.{kindsOf, isKind, opCount, recvOp, clauseOp}
 use Rattle.node.specs.Values.{intZero, isNumber, valueSound, exactKind, lastKind}
 
 -- an operand: a number or a value; a clause kind is a number of node's `Values`, with one exact value where it is `exactKind`
@@ -92,7 +92,7 @@ due k (x ∷ xs) = due (dueNext k x) xs
 
 -- "target place on a clause"
 abbrev pub targetFree : List Instruction → OperandKind → Operand → Bool
-targetFree code kind x = not (isPlace kind) || not (onClause code (x .number))
+targetFree code kind x = not (isKind PlaceT kind) || not (onClause code (x .number))
 
 unfoldable pub targetsFree : List Instruction → Instruction → Bool
 targetsFree code x = allTwo (targetFree code) (kindsOf (x .number)) (x .operands)
