@@ -241,6 +241,7 @@ pub const PID: u8 = 4;
 
 pub const NOTE: u8 = 5;
 
+// The last of them.
 pub const LAST_KIND: u8 = NOTE;
 
 // How many operands each op has, by its number.
@@ -248,22 +249,22 @@ const OPERANDS: [u8; 16] = [2, 2, 1, 2, 2, 2, 1, 1, 1, 3, 1, 4, 1, 3, 3, 1];
 
 // The shape of each op, by its number.
 const SHAPES: [Shape; 16] = [
-    Shape::RV,
-    Shape::RS,
-    Shape::R,
-    Shape::RS,
-    Shape::RS,
-    Shape::RS,
-    Shape::R,
-    Shape::R,
-    Shape::F,
-    Shape::RBQ,
-    Shape::N,
-    Shape::KRST,
-    Shape::T,
-    Shape::RVT,
-    Shape::RST,
-    Shape::R,
+    Shape::RV, // set
+    Shape::RS, // copy
+    Shape::R, // self
+    Shape::RS, // add
+    Shape::RS, // send
+    Shape::RS, // exit
+    Shape::R, // link
+    Shape::R, // unlink
+    Shape::F, // trap
+    Shape::RBQ, // spawn
+    Shape::N, // recv
+    Shape::KRST, // clause
+    Shape::T, // jump
+    Shape::RVT, // same
+    Shape::RST, // less
+    Shape::R, // stop
 ];
 
 // The number of operands of an op; 0 for a number that is no op.

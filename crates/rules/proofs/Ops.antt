@@ -29,7 +29,7 @@ use Rattle.node.specs.declared.Value.the-variants.{Int, Pid}
 use Rattle.node.specs.Lists.{allOf}
 use Rattle.node.specs.Mailboxes.{noMessage, messages, without, sixteenSlots}
 use Rattle.node.specs.Nodes.{noOp}
-use Rattle.node.specs.Ops.{kindsOf, recvOp, clauseOp}
+use Rattle.node.specs.Ops.{kindsOf, opCount, recvOp, clauseOp}
 use Rattle.node.specs.Processes.{register, withRegister, withRegisters, moved, advanced, trapped, linked, unlinked, ended}
 use Rattle.node.specs.Values.{badarg, badarith, pid, isNumber, valueSound, messageSound, sameValue}
 use Rattle.node.proofs.Lists.{leave-length}
@@ -350,6 +350,10 @@ module _ (code : List Op) (i : ℕ) (st : State) (o : Op) where
 
   stops-shown : (k : ℕ) → Shown k (stops st o)
   stops-shown k = ends-shown k r (value-sound k (o .r))
+
+  -- the table of what ops do has a row to an op of node's table
+  rows-all : length (opTable code i st o) ≡ opCount
+  rows-all = refl
 
   -- a row to an op
   rows : Each Shown 0 (opTable code i st o)
