@@ -11,6 +11,7 @@ use lib.Dec.{eqb, eqb·suc-zero, leb, leb·suc-suc, leb·suc-zero, ltb}
 use lib.ListN.{length, getD, take, drop, drop-of-length-le}
 use lib.Seq.{drop-cons, take-suc}
 use Rattle.node.specs.Lists.{allFrom, allOf}
+use Rattle.node.specs.Ops.{clauseOp, recvOp}
 use Rattle.rules.specs.Behaviours.{Instruction, clauseCount, codeSound, due, dueNext, hasClauses, inRange, isClause, isRecv, targetsFree, wellPlaced}
 use Rattle.behaviours.specs.Codes.{placedBy}
 
@@ -56,7 +57,7 @@ module _ (x : Instruction) (rest : List Instruction) (r f g : Bool) where
   now k = hasClauses k (x ∷ rest) && (r && ((not (isRecv x) || hasClauses (clauseCount x) rest) && (not (isClause x) || ltb 0 k) && f) && g)
 
   no-recv : isClause x ≡ true → isRecv x ≡ false
-  no-recv e = let n : x .number ≡ 11 = eqb-true (x .number) 11 e in ne-eqb (x .number) 10 (λ q. omega (arith, n, q))
+  no-recv e = let n : x .number ≡ clauseOp = eqb-true (x .number) clauseOp e in ne-eqb (x .number) recvOp (λ q. omega (arith, n, q))
 
   goes : (k : ℕ) (a b q : Bool) → isClause x ≡ a → isRecv x ≡ b → r ≡ q → f ≡ true → (r && placedBy k x) ≡ true → now k ≡ (hasClauses (dueNext k x) rest && g)
   unfolding now placedBy

@@ -5,14 +5,16 @@ use mathlib.Core.Logic.{_⊎_, inl, inr}
 use mathlib.Core.Path.{_≡_, refl, sym, _∙_, ap}
 use Prim.Native.Nat.{ℕ, _+_, _-_, _*_, _≤_, _<_}
 use native.Mathlib.Omega.{arith}
-use borrow.Author.Tests.{eqb-true, ne-eqb}
+use borrow.Author.Tests.{ne-eqb}
 use lib.Dec.{eqb}
 use lib.ListN.{length, getD, drop, List·getD-eq-default}
 use lib.Seq.{getD-drop}
 use Rattle.node.specs.declared.Op.{Op}
+use Rattle.node.specs.declared.OperandKind.{OperandKind}
+use Rattle.node.specs.declared.OperandKind.the-variants.{NoOperand, RegisterR, RegisterS, ValueV, PlaceT, BehaviourB, ProcessQ, FlagF, CountN, KindK}
 use Rattle.node.specs.Lists.{allOf}
 use Rattle.node.specs.Nodes.{noOp}
-use Rattle.node.specs.Ops.{kindsOf}
+use Rattle.node.specs.Ops.{clauseOp, isKind, kindsOf, recvOp}
 use Rattle.node.proofs.Lists.{allTwo-map, getD-in, held-at, held-length, map-rising-at, map-rising-length}
 use Rattle.rules.specs.Behaviours.{Instruction, clauseCount, instruction, noInstruction, numeric, onClause, operand, targetsFree}
 use Rattle.behaviours.specs.Codes.{codeIn, codesIn, hasTarget}
@@ -20,7 +22,7 @@ use Rattle.behaviours.specs.Codes.{codeIn, codesIn, hasTarget}
 -- ---- ops
 
 -- recv's n
-pub clause-count : (o : Op) → o .number ≡ 10 → clauseCount (instruction o) ≡ o .small
+pub clause-count : (o : Op) → o .number ≡ recvOp → clauseCount (instruction o) ≡ o .small
 unfolding instruction operand kindsOf
 clause-count o e = ap (λ (n : ℕ). getD (map (operand o) (kindsOf n)) 0 (numeric 0) .number) e
 
@@ -35,29 +37,37 @@ unfolding codeIn
 code-at n ops k t h = held-at instruction noOp n (drop (32 * k) ops) t h ∙ ap instruction (getD-drop (32 * k) ops t noOp)
 
 pub on-clause-end : (code : List Instruction) (t : ℕ) → length code ≤ t → onClause code t ≡ false
-on-clause-end code t h = ap (λ (x : Instruction). eqb (x .number) 11) (List·getD-eq-default code noInstruction {n = t} h)
+on-clause-end code t h = ap (λ (x : Instruction). eqb (x .number) clauseOp) (List·getD-eq-default code noInstruction {n = t} h)
 
-pub on-clause-at : (n : ℕ) (ops : List Op) (k t : ℕ) → t < n → onClause (codeIn n ops k) t ≡ eqb (getD ops (32 * k + t) noOp .number) 11
+pub on-clause-at : (n : ℕ) (ops : List Op) (k t : ℕ) → t < n → onClause (codeIn n ops k) t ≡ eqb (getD ops (32 * k + t) noOp .number) clauseOp
 unfolding instruction
 on-clause-at n ops k t h =
     let l : t < length (codeIn n ops k) = rw (code-length n ops k) h in
-    ap (λ (x : Instruction). eqb (x .number) 11) (getD-in (codeIn n ops k) t noInstruction (instruction noOp) l ∙ code-at n ops k t h)
+    ap (λ (x : Instruction). eqb (x .number) clauseOp) (getD-in (codeIn n ops k) t noInstruction (instruction noOp) l ∙ code-at n ops k t h)
 
 -- one operand after the other, for a test q of a target
-one-kind : (o : Op) (q : ℕ → Bool) (kind : ℕ) (a t : Bool) → eqb kind 4 ≡ t → ((not (eqb kind 4) || q (operand o kind .number)) && cond (not a) (q (o .target)) true) ≡ cond (not (not (eqb kind 4) && a)) (q (o .target)) true
+one-kind : (o : Op) (q : ℕ → Bool) (kind : OperandKind) (a : Bool) → ((not (isKind PlaceT kind) || q (operand o kind .number)) && cond (not a) (q (o .target)) true) ≡ cond (not (not (isKind PlaceT kind) && a)) (q (o .target)) true
 unfolding operand
-one-kind o q kind a false e = rw e
-one-kind o q kind a true e = rw (e, ap (λ (k : ℕ). q (operand o k .number)) (eqb-true kind 4 e)) (twice a (q (o .target)))
+one-kind o q NoOperand a = refl
+one-kind o q RegisterR a = refl
+one-kind o q RegisterS a = refl
+one-kind o q ValueV a = refl
+one-kind o q BehaviourB a = refl
+one-kind o q ProcessQ a = refl
+one-kind o q FlagF a = refl
+one-kind o q CountN a = refl
+one-kind o q KindK a = refl
+one-kind o q PlaceT a = twice a (q (o .target))
   where
     twice : (a b : Bool) → (b && cond (not a) b true) ≡ b
     twice a false = refl
     twice true true = refl
     twice false true = refl
 
-all-kinds : (o : Op) (q : ℕ → Bool) (ks : List ℕ) → allOf (λ (kind : ℕ). not (eqb kind 4) || q (operand o kind .number)) ks ≡ cond (not (allOf (λ (kind : ℕ). not (eqb kind 4)) ks)) (q (o .target)) true
+all-kinds : (o : Op) (q : ℕ → Bool) (ks : List OperandKind) → allOf (λ (kind : OperandKind). not (isKind PlaceT kind) || q (operand o kind .number)) ks ≡ cond (not (allOf (λ (kind : OperandKind). not (isKind PlaceT kind)) ks)) (q (o .target)) true
 all-kinds o q [] = refl
 all-kinds o q (kind ∷ ks) =
-    ap (λ (b : Bool). (not (eqb kind 4) || q (operand o kind .number)) && b) (all-kinds o q ks) ∙ one-kind o q kind (allOf (λ (k : ℕ). not (eqb k 4)) ks) (eqb kind 4) refl
+    ap (λ (b : Bool). (not (isKind PlaceT kind) || q (operand o kind .number)) && b) (all-kinds o q ks) ∙ one-kind o q kind (allOf (λ (k : OperandKind). not (isKind PlaceT k)) ks)
 
 landed : (code : List Instruction) (h : Bool) (t : ℕ) → cond h (not (onClause code t)) true ≡ not (onClause code (cond h t (length code)))
 landed code true t = refl
@@ -66,7 +76,7 @@ landed code false t = rw (on-clause-end code (length code) (omega arith))
 target-free : (code : List Instruction) (o : Op) → targetsFree code (instruction o) ≡ not (onClause code (cond (hasTarget (o .number)) (o .target) (length code)))
 unfolding targetsFree instruction hasTarget
 target-free code o =
-    allTwo-map (λ kind x. not (eqb kind 4) || not (onClause code (x .number))) (operand o) (kindsOf (o .number))
+    allTwo-map (λ kind x. not (isKind PlaceT kind) || not (onClause code (x .number))) (operand o) (kindsOf (o .number))
     ∙ all-kinds o (λ t. not (onClause code t)) (kindsOf (o .number))
     ∙ landed code (hasTarget (o .number)) (o .target)
 
@@ -81,12 +91,12 @@ module _ (n : ℕ) (ops : List Op) (k : ℕ) (o : Op) {to : ℕ} (by : to ≡ co
   pub lands-end : n ≤ to → true ≡ targetsFree (codeIn n ops k) (instruction o)
   lands-end h = sym (target-to n ops k o to by ∙ ap not (on-clause-end (codeIn n ops k) to (omega (arith, code-length n ops k))))
 
-  pub lands-at : {x : Op} → to < n → x ≡ getD ops (32 * k + to) noOp → not (eqb (x .number) 11) ≡ targetsFree (codeIn n ops k) (instruction o)
-  lands-at h e = sym (target-to n ops k o to by ∙ ap not (on-clause-at n ops k to h) ∙ ap (λ (y : Op). not (eqb (y .number) 11)) (sym e))
+  pub lands-at : {x : Op} → to < n → x ≡ getD ops (32 * k + to) noOp → not (eqb (x .number) clauseOp) ≡ targetsFree (codeIn n ops k) (instruction o)
+  lands-at h e = sym (target-to n ops k o to by ∙ ap not (on-clause-at n ops k to h) ∙ ap (λ (y : Op). not (eqb (y .number) clauseOp)) (sym e))
 
   -- where it leads is past the end, or on another op than a clause
-  pub lands-free : ((to < n) × (getD ops (32 * k + to) noOp .number ≡ 11 → ⊥)) ⊎ (n ≤ to) → targetsFree (codeIn n ops k) (instruction o) ≡ true
-  lands-free (inl w) = sym (lands-at (w .0) refl) ∙ ap not (ne-eqb (getD ops (32 * k + to) noOp .number) 11 (w .1))
+  pub lands-free : ((to < n) × (getD ops (32 * k + to) noOp .number ≡ clauseOp → ⊥)) ⊎ (n ≤ to) → targetsFree (codeIn n ops k) (instruction o) ≡ true
+  lands-free (inl w) = sym (lands-at (w .0) refl) ∙ ap not (ne-eqb (getD ops (32 * k + to) noOp .number) clauseOp (w .1))
   lands-free (inr h) = sym (lands-end h)
 
 -- ---- all behaviours

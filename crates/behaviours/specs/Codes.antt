@@ -10,9 +10,10 @@ use Prim.Native.Nat.{ℕ, _-_, _*_}
 use lib.Dec.{eqb, ltb}
 use lib.ListN.{getD, drop}
 use Rattle.node.specs.declared.Op.{Op}
+use Rattle.node.specs.declared.OperandKind.the-variants.{PlaceT}
 use Rattle.node.specs.Lists.{firsts, rising, allOf}
 use Rattle.node.specs.Nodes.{noOp}
-use Rattle.node.specs.Ops.{kindsOf}
+use Rattle.node.specs.Ops.{isKind, kindsOf}
 use Rattle.rules.specs.Behaviours.{Instruction, instruction, isClause}
 
 unfoldable pub codeIn : ℕ → List Op → ℕ → List Instruction
@@ -25,4 +26,4 @@ unfoldable pub placedBy : ℕ → Instruction → Bool
 placedBy k x = cond (isClause x) (ltb 0 k) (eqb k 0)
 
 unfoldable pub hasTarget : ℕ → Bool
-hasTarget n = not (allOf (λ kind. not (eqb kind 4)) (kindsOf n))
+hasTarget n = not (allOf (λ kind. not (isKind PlaceT kind)) (kindsOf n))

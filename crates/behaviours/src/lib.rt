@@ -3,18 +3,20 @@ ghost use mathlib.Core.Bool.{_&&_, cond};
 ghost use mathlib.Core.Path.{_≡_};
 ghost use lib.Dec.{eqb, leb};
 ghost use Rattle.node.specs.Lists.{allOf};
-ghost use Rattle.node.specs.Values.{exactKind, intZero, isNumber, noteKind, valueSound};
+ghost use Rattle.node.specs.Values.{exactKind, intZero, isNumber, lastKind, valueSound};
 ghost use Rattle.rules.specs.Behaviours.{codeSound, dueNext, inRange, instruction};
 ghost use Rattle.behaviours.specs.Codes.{codesIn, hasTarget, placedBy};
 use node::BehaviourNumber;
 use node::CLAUSE;
 use node::EXACT;
-use node::NOTE;
+use node::LAST_KIND;
 use node::Op;
 use node::ProcessNumber;
 use node::RECV;
+use node::Shape;
 use node::Value;
 use node::is_number;
+use node::shape_of;
 use node::value_sound;
 use node::within;
 
@@ -100,54 +102,61 @@ pub fn landing(op: Op, len: u8) -> u8
 pub fn has_target(number: u8) -> bool
     ensures { λ r. ⌜ r ≡ hasTarget number ⌝ }
 {
-    within(number, 11, 14)
+    let shape = shape_of(number);
+    match shape {
+        Shape::Nothing => false,
+        Shape::R => false,
+        Shape::RS => false,
+        Shape::RV => false,
+        Shape::F => false,
+        Shape::RBQ => false,
+        Shape::N => false,
+        Shape::KRST => true,
+        Shape::T => true,
+        Shape::RVT => true,
+        Shape::RST => true,
+    }
 }
 
-// Each operand of an op in range, in a behaviour of `len` ops, of `count` behaviours. The arms are the rows of the table of operands in
-// `node`: looking each operand up there takes longer.
+// Each operand of an op in range, in a behaviour of `len` ops, of `count` behaviours. The arms are the shapes of operands in `node`: looking
+// each operand up there takes longer.
 pub fn in_range(op: Op, count: u8, len: u8) -> bool
     ensures { λ r. ⌜ r ≡ inRange count len (instruction op) ⌝ }
 {
-    let number = op.number;
     let v = op.value;
     let b = op.behaviour;
     let q = op.process;
-    match number {
-        0 => register_and_value(op.r, v),
-        1 => registers(op.r, op.s),
-        2 => op.r <= 3,
-        3 => registers(op.r, op.s),
-        4 => registers(op.r, op.s),
-        5 => registers(op.r, op.s),
-        6 => op.r <= 3,
-        7 => op.r <= 3,
-        8 => op.small <= 1,
-        9 => register_and_numbers(op.r, b, q, count),
-        10 => within(op.small, 1, 8),
-        11 => {
+    let shape = shape_of(op.number);
+    match shape {
+        Shape::Nothing => false,
+        Shape::R => op.r <= 3,
+        Shape::RS => registers(op.r, op.s),
+        Shape::RV => register_and_value(op.r, v),
+        Shape::F => op.small <= 1,
+        Shape::RBQ => register_and_numbers(op.r, b, q, count),
+        Shape::N => within(op.small, 1, 8),
+        Shape::KRST => {
             if !clause_kind_sound(op.small, v) {
                 return false;
             }
             registers_and_place(op.r, op.s, op.target, len)
         }
-        12 => op.target <= len,
-        13 => {
+        Shape::T => op.target <= len,
+        Shape::RVT => {
             if !register_and_value(op.r, v) {
                 return false;
             }
             op.target <= len
         }
-        14 => registers_and_place(op.r, op.s, op.target, len),
-        15 => op.r <= 3,
-        _ => false,
+        Shape::RST => registers_and_place(op.r, op.s, op.target, len),
     }
 }
 
-// The kind of a clause; one kind has one exact value.
+// The kind of a clause, which has a value where it takes just that one.
 pub fn clause_kind_sound(kind: u8, v: Value) -> bool
-    ensures { λ r. ⌜ r ≡ (leb kind noteKind && valueSound (cond (eqb kind exactKind) v intZero)) ⌝ }
+    ensures { λ r. ⌜ r ≡ (leb kind lastKind && valueSound (cond (eqb kind exactKind) v intZero)) ⌝ }
 {
-    if NOTE < kind {
+    if LAST_KIND < kind {
         return false;
     }
     if kind == EXACT {

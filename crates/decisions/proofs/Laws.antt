@@ -5,6 +5,7 @@ use mathlib.Core.List.{List, []}
 use mathlib.Core.Option.{Option, none, some}
 use mathlib.Core.Path.{_≡_, refl, sym, _∙_, ap}
 use Prim.Native.Nat.{ℕ, zero, suc, _+_, _-_, _≤_, _<_, min}
+use native.Mathlib.Decide.{ℕ-discrete}
 use native.Mathlib.Omega.{arith}
 use borrow.Author.Tests.{ltb-true, ltb-false, lt-leb, le-leb, lt-ltb, le-ltb}
 use lib.Dec.{ltb}
@@ -27,7 +28,7 @@ use Rattle.rules.specs.Answers.{Answer}
 use Rattle.rules.specs.Arrive.{joinsWith, arrivesIn, arrives}
 use Rattle.rules.specs.Effects.{State, Effect, becomes, ends, sends}
 use Rattle.rules.specs.Receive.{receives}
-use Rattle.rules.specs.Run.{onIntegers, opTable, runsOp, runsLive, runsIn, runs, closesTo}
+use Rattle.rules.specs.Run.{onIntegers, stops, opTable, runsOp, runsLive, runsIn, runs, closesTo}
 use Rattle.decisions.specs.Answers.{unread, tells, refusing, becoming, decisionOf, says, ranOp, codeAt, ran, arrived, integersOf}
 use Rattle.decisions.specs.declared.Pair.the-variants.{Not, Both}
 
@@ -58,18 +59,24 @@ past (suc k) n h = let l : k ≤ n = past k n (h .0) in let d : n ≡ k → ⊥ 
 -- ---- an op by its number
 
 module _ (i : ProcessNumber) (p : Process) (o : Op) where
-  -- op k of the table; past it an op is stop
+  -- op k of the table; what is past it is read as stop
   abbrev pub entry : ℕ → State → Answer Effect
-  entry k st = getD (opTable [] (i .0) st o) k (ends st (register (st .process) (o .r)))
+  entry k st = getD (opTable [] (i .0) st o) k (stops st o)
 
   pub ran-at : (k : ℕ) → o .number ≡ k → says p 0 (entry k) ≡ ranOp i p o
   unfolding ranOp runsOp
   ran-at k e = ap (λ (j : ℕ). says p 0 (entry j)) (sym e)
 
-  pub ran-stop : 15 ≤ o .number → says p 0 (λ st. ends st (register (st .process) (o .r))) ≡ ranOp i p o
-  ran-stop h =
-      let st = unread p 0 in
-      ap (decisionOf st) (sym (List·getD-eq-default (opTable [] (i .0) st o) (ends st (register p (o .r))) {n = o .number} h)) ∙ ran-at (o .number) refl
+  -- the last op of the table is stop
+  entry-stop : (k : ℕ) (st : State) → 15 ≤ k → entry k st ≡ stops st o
+  entry-stop k st h = go (ℕ-discrete k 15)
+    where
+      go : Dec (k ≡ 15) → entry k st ≡ stops st o
+      go (yes e) = ap (λ (j : ℕ). entry j st) e
+      go (no q) = List·getD-eq-default (opTable [] (i .0) st o) (stops st o) {n = k} (omega arith)
+
+  pub ran-stop : 15 ≤ o .number → says p 0 (λ st. stops st o) ≡ ranOp i p o
+  ran-stop h = let st = unread p 0 in ap (decisionOf st) (sym (entry-stop (o .number) st h)) ∙ ran-at (o .number) refl
 
 -- ---- a run by the stage, and at a place
 

@@ -36,7 +36,7 @@ use Rattle.rules.specs.Answers.{Answer, done, need, mailboxFull}
 use Rattle.rules.specs.Arrive.{joinsWith, exits, takes, arrivesIn, arrives}
 use Rattle.rules.specs.Effects.{State, Effect, becomes, ends, sends}
 use Rattle.rules.specs.Receive.{receives}
-use Rattle.rules.specs.Run.{setsRegister, jumpsIf, integerIn, onIntegers, setsSum, adds, compares, processIn, toProcess, sendsTo, toOther, opTable, runsOp, closesTo, closes, runsLive, runsIn, runs}
+use Rattle.rules.specs.Run.{setsRegister, jumpsIf, integerIn, onIntegers, setsSum, adds, compares, processIn, toProcess, sendsTo, toOther, stops, opTable, runsOp, closesTo, closes, runsLive, runsIn, runs}
 use Rattle.decisions.proofs.Laws.{ops-length, ops-op}
 use Rattle.receive.specs.Answers.{stateOf}
 use Rattle.decisions.specs.Answers.{unread, decisionOf, codeAt, ran, arrived, answerOf}
@@ -141,7 +141,7 @@ module _ (code : List Op) (i : ℕ) (p : Process) (m : Mailbox) where
                               (refl, refl),
                               (
                                 (refl, refl),  -- clause, jump, same
-                                (runs-compares (o .target) r s, tt),
+                                (runs-compares (o .target) r s, ((refl, refl), tt)),
                               ),
                             ),
                           ),
@@ -155,11 +155,11 @@ module _ (code : List Op) (i : ℕ) (p : Process) (m : Mailbox) where
           ),
         ),
       ),
-    )  -- less
+    )  -- less, stop
 
     runs-op : Runs (runsOp ops i bare o) (runsOp code i st o)
     unfolding runsOp
-    runs-op = runs-at (opTable ops i bare o) (opTable code i st o) (ends bare r) (ends st r) runs-table (refl, refl) (o .number)
+    runs-op = runs-at (opTable ops i bare o) (opTable code i st o) (stops bare o) (stops st o) runs-table (refl, refl) (o .number)
 
   runs-closes : Runs (closes bare) (closes st)
   unfolding closes

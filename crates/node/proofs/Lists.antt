@@ -28,6 +28,15 @@ module _ {A : Type 0} where
   firsts-getD d (suc n) (x ∷ l) zero h = refl
   firsts-getD d (suc n) (x ∷ l) (suc k) h = firsts-getD d n l k (le-of-suc-le-suc h)
 
+  -- a list that is filled up with the default
+  pub firsts-filled : (d : A) (n : ℕ) (l : List A) (k : ℕ) → length l ≤ n → getD (firsts d n l) k d ≡ getD l k d
+  firsts-filled d zero [] k h = refl
+  firsts-filled d zero (x ∷ l) k h = absurd (not-suc-le-zero h)
+  firsts-filled d (suc n) [] zero h = refl
+  firsts-filled d (suc n) [] (suc k) h = firsts-filled d n [] k (omega arith)
+  firsts-filled d (suc n) (x ∷ l) zero h = refl
+  firsts-filled d (suc n) (x ∷ l) (suc k) h = firsts-filled d n l k (le-of-suc-le-suc h)
+
   -- one more element behind those that are there
   pub firsts-join : (d x : A) (n : ℕ) (l : List A) → n < length l → firsts d (suc n) (set l n x) ≡ firsts d n l ++ (x ∷ [])
   firsts-join d x n [] h = absurd (not-suc-le-zero h)

@@ -1,59 +1,112 @@
--- Ops (instructions; document 01, "Run, live"). An op's number is its place in the table: set 0, copy 1, self 2, add 3, send 4, exit 5,
--- link 6, unlink 7, trap 8, spawn 9, recv 10, clause 11, jump 12, same 13, less 14, stop 15.
---   operandCounts     how many operands each op has
---   operandKinds      what they are, four to an op
---   operandKind n k   what operand k of op n is
---   kindsOf n         what the operands of op n are, in their order
---   stopOp            the op `stop,0`
---   opCount recvOp clauseOp   how many ops there are, and the numbers of recv and clause
-use mathlib.Core.Bool.{cond}
-use mathlib.Core.List.{List, [], _∷_}
-use Prim.Native.Nat.{ℕ, _+_, _*_}
-use lib.Dec.{ltb}
-use lib.ListN.{getD, take, drop}
+-- Ops (instructions; document 01, "Run, live"): one table, a row to an op. An op's number is its row's place, the first being 0; all that
+-- goes by the number is computed from the table.
+--   letter k           document 01's letter for an operand of kind k
+--   isKind j k         kind k is j
+--   OpForm form w ks   how an op is written: its word, and what its operands are, in their order
+--   opForms            the table
+--   opCount            how many ops there are
+--   opWords opKinds    the words of the ops, and what their operands are
+--   operandCounts      how many operands each op has
+--   kindsOf n          what the operands of op n are; none where n is no op
+--   operandKind n k    what operand k of op n is
+--   kindsIn x          what operands an op of shape x has
+--   recvOp clauseOp    the places of recv and clause in the table
+--   stopOp             the op `stop,0`
+use mathlib.Core.Bool.{Bool}
+use mathlib.Core.List.{List, [], _∷_, map}
+use Prim.Native.Nat.{ℕ}
+use Prim.Native.Char.{code}
+use Prim.Native.String.{String}
+use lib.Dec.{eqb}
+use lib.ListN.{length, getD}
 use Rattle.node.specs.declared.Op.{Op}
+use Rattle.node.specs.declared.OperandKind.{OperandKind}
+use Rattle.node.specs.declared.OperandKind.the-variants.{NoOperand, RegisterR, RegisterS, ValueV, PlaceT, BehaviourB, ProcessQ, FlagF, CountN, KindK}
+use Rattle.node.specs.declared.Shape.{Shape}
+use Rattle.node.specs.declared.Shape.the-variants.{Nothing, R, RS, RV, F, RBQ, N, KRST, T, RVT, RST}
+use Rattle.node.specs.Texts.{bytes}
 use Rattle.node.specs.Values.{intZero}
 
--- "Operand counts, in the table's order"
-abbrev pub operandCounts : List ℕ
-operandCounts = 2 ∷ 2 ∷ 1 ∷ 2 ∷ 2 ∷ 2 ∷ 1 ∷ 1 ∷ 1 ∷ 3 ∷ 1 ∷ 4 ∷ 1 ∷ 3 ∷ 3 ∷ 1 ∷ []
+abbrev pub letter : OperandKind → ℕ
+letter NoOperand = 0
+letter RegisterR = code "r"
+letter RegisterS = code "s"
+letter ValueV = code "V"
+letter PlaceT = code "t"
+letter BehaviourB = code "b"
+letter ProcessQ = code "q"
+letter FlagF = code "f"
+letter CountN = code "n"
+letter KindK = code "k"
 
--- 0 none; 1 register r; 2 register s; 3 value V; 4 place t; 5 behaviour number b; 6 process number q; 7 flag f; 8 count n of clauses;
--- 9 clause kind k
-abbrev pub operandKinds : List ℕ
-operandKinds =
-    1 ∷ 3 ∷ 0 ∷ 0  -- set,r,V
-    ∷ 1 ∷ 2 ∷ 0 ∷ 0  -- copy,r,s
-    ∷ 1 ∷ 0 ∷ 0 ∷ 0  -- self,r
-    ∷ 1 ∷ 2 ∷ 0 ∷ 0  -- add,r,s
-    ∷ 1 ∷ 2 ∷ 0 ∷ 0  -- send,r,s
-    ∷ 1 ∷ 2 ∷ 0 ∷ 0  -- exit,r,s
-    ∷ 1 ∷ 0 ∷ 0 ∷ 0  -- link,r
-    ∷ 1 ∷ 0 ∷ 0 ∷ 0  -- unlink,r
-    ∷ 7 ∷ 0 ∷ 0 ∷ 0  -- trap,f
-    ∷ 1 ∷ 5 ∷ 6 ∷ 0  -- spawn,r,b,q
-    ∷ 8 ∷ 0 ∷ 0 ∷ 0  -- recv,n
-    ∷ 9 ∷ 1 ∷ 2 ∷ 4  -- clause,k,r,s,t
-    ∷ 4 ∷ 0 ∷ 0 ∷ 0  -- jump,t
-    ∷ 1 ∷ 3 ∷ 4 ∷ 0  -- same,r,V,t
-    ∷ 1 ∷ 2 ∷ 4 ∷ 0  -- less,r,s,t
-    ∷ 1 ∷ 0 ∷ 0 ∷ 0  -- stop,r
+abbrev pub isKind : OperandKind → OperandKind → Bool
+isKind j k = eqb (letter j) (letter k)
+
+pub record OpForm : Type 0 where
+  pub word : List ℕ
+  pub operands : List OperandKind
+
+abbrev pub form : String → List OperandKind → OpForm
+form w ks = record { word = bytes w; operands = ks }
+
+abbrev pub opForms : List OpForm
+opForms =
+    form "set" (RegisterR ∷ ValueV ∷ [])
+    ∷ form "copy" (RegisterR ∷ RegisterS ∷ [])
+    ∷ form "self" (RegisterR ∷ [])
+    ∷ form "add" (RegisterR ∷ RegisterS ∷ [])
+    ∷ form "send" (RegisterR ∷ RegisterS ∷ [])
+    ∷ form "exit" (RegisterR ∷ RegisterS ∷ [])
+    ∷ form "link" (RegisterR ∷ [])
+    ∷ form "unlink" (RegisterR ∷ [])
+    ∷ form "trap" (FlagF ∷ [])
+    ∷ form "spawn" (RegisterR ∷ BehaviourB ∷ ProcessQ ∷ [])
+    ∷ form "recv" (CountN ∷ [])
+    ∷ form "clause" (KindK ∷ RegisterR ∷ RegisterS ∷ PlaceT ∷ [])
+    ∷ form "jump" (PlaceT ∷ [])
+    ∷ form "same" (RegisterR ∷ ValueV ∷ PlaceT ∷ [])
+    ∷ form "less" (RegisterR ∷ RegisterS ∷ PlaceT ∷ [])
+    ∷ form "stop" (RegisterR ∷ [])
     ∷ []
 
 abbrev pub opCount : ℕ
-opCount = 16
+opCount = length opForms
 
+abbrev pub opWords : List (List ℕ)
+opWords = map (λ (f : OpForm). f .word) opForms
+
+abbrev pub opKinds : List (List OperandKind)
+opKinds = map (λ (f : OpForm). f .operands) opForms
+
+-- "Operand counts, in the table's order"
+abbrev pub operandCounts : List ℕ
+operandCounts = map length opKinds
+
+unfoldable pub kindsOf : ℕ → List OperandKind
+kindsOf n = getD opKinds n []
+
+unfoldable pub operandKind : ℕ → ℕ → OperandKind
+operandKind n k = getD (kindsOf n) k NoOperand
+
+unfoldable pub kindsIn : Shape → List OperandKind
+kindsIn Nothing = []
+kindsIn R = RegisterR ∷ []
+kindsIn RS = RegisterR ∷ RegisterS ∷ []
+kindsIn RV = RegisterR ∷ ValueV ∷ []
+kindsIn F = FlagF ∷ []
+kindsIn RBQ = RegisterR ∷ BehaviourB ∷ ProcessQ ∷ []
+kindsIn N = CountN ∷ []
+kindsIn KRST = KindK ∷ RegisterR ∷ RegisterS ∷ PlaceT ∷ []
+kindsIn T = PlaceT ∷ []
+kindsIn RVT = RegisterR ∷ ValueV ∷ PlaceT ∷ []
+kindsIn RST = RegisterR ∷ RegisterS ∷ PlaceT ∷ []
+
+-- places in the table
 abbrev pub recvOp : ℕ
 recvOp = 10
 
 abbrev pub clauseOp : ℕ
 clauseOp = 11
-
-unfoldable pub operandKind : ℕ → ℕ → ℕ
-operandKind n k = cond (ltb k 4) (getD operandKinds (n * 4 + k) 0) 0
-
-unfoldable pub kindsOf : ℕ → List ℕ
-kindsOf n = take (getD operandCounts n 0) (drop (n * 4) operandKinds)
 
 abbrev pub stopOp : Op
 stopOp = record { number = 15; r = 0; s = 0; target = 0; small = 0; value = intZero; process = record { 0 = 0 }; behaviour = record { 0 = 0 } }

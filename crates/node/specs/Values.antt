@@ -6,6 +6,7 @@
 --   least greatest fitsInt z             the limits of an integer `i`; z is within them
 --   valueSound v messageSound m          v keeps its limits; so do the values of a message, and a note's sender
 --   exactKind anyKind intKind ..         the kinds of a clause, by number: one exact value, every message, then the kinds of messages
+--   lastKind                             the last of them
 --   kindOf v messageKind m               the kind of a value, and of a message
 --   numberIn v                           the number that a value holds
 --   sameValue v w                        v equals w in kind and number
@@ -88,6 +89,9 @@ pidKind = 4
 
 abbrev pub noteKind : ℕ
 noteKind = 5
+
+abbrev pub lastKind : ℕ
+lastKind = noteKind
 
 abbrev pub kindOf : Value → ℕ
 kindOf (Int z) = intKind

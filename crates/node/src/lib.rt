@@ -1,10 +1,12 @@
 // The types of a node, the constructors of fresh processes and of the blank node, what a step makes of a record, and the tables of ops.
 ghost use mathlib.Core.Bool.{_&&_};
+ghost use mathlib.Core.List.{[], _∷_};
 ghost use mathlib.Core.Path.{_≡_};
 ghost use Prim.Native.Nat.{_+_, _-_, min};
 ghost use lib.Dec.{leb};
 ghost use lib.ListN.{getD};
-ghost use Rattle.node.specs.Ops.{operandCounts, operandKind, stopOp};
+ghost use Rattle.node.specs.declared.OperandKind.the-variants.{NoOperand};
+ghost use Rattle.node.specs.Ops.{kindsIn, kindsOf, operandCounts, operandKind, stopOp};
 ghost use Rattle.node.specs.Processes.{unborn, fresh, register, withRegister, moved, advanced, trapped, linksTo, linked, unlinked, ended, gone, withRegisters, withLinks, withStage};
 ghost use Rattle.node.specs.Values.{isNumber, valueSound, kindOf, messageKind, numberIn, sameValue};
 ghost use Rattle.node.specs.Sets.{noPeers, has, withPeer, withoutPeer, lowestPeer};
@@ -97,6 +99,36 @@ pub struct Op {
     pub process: ProcessNumber,
     pub behaviour: BehaviourNumber,
     pub value: Value,
+}
+
+// What an operand is, with document 01's letter for it: a register, a value, a place, a behaviour number, a process number, a flag, a count of
+// clauses, a clause's kind.
+pub enum OperandKind {
+    NoOperand,
+    RegisterR,
+    RegisterS,
+    ValueV,
+    PlaceT,
+    BehaviourB,
+    ProcessQ,
+    FlagF,
+    CountN,
+    KindK,
+}
+
+// What operands an op has, in their order; ops with the same operands share a shape.
+pub enum Shape {
+    Nothing,
+    R,
+    RS,
+    RV,
+    F,
+    RBQ,
+    N,
+    KRST,
+    T,
+    RVT,
+    RST,
 }
 
 // A set of processes as one number: process k + 1 is in it where bit k is set.
@@ -209,75 +241,30 @@ pub const PID: u8 = 4;
 
 pub const NOTE: u8 = 5;
 
+// The last of them.
+pub const LAST_KIND: u8 = NOTE;
+
 // How many operands each op has, by its number.
 const OPERANDS: [u8; 16] = [2, 2, 1, 2, 2, 2, 1, 1, 1, 3, 1, 4, 1, 3, 3, 1];
 
-// Of each op, four to an op, what its operands are.
-const OPERAND_KINDS: [u8; 64] = [
-    1,
-    3,
-    0,
-    0, // set
-    1,
-    2,
-    0,
-    0, // copy
-    1,
-    0,
-    0,
-    0, // self
-    1,
-    2,
-    0,
-    0, // add
-    1,
-    2,
-    0,
-    0, // send
-    1,
-    2,
-    0,
-    0, // exit
-    1,
-    0,
-    0,
-    0, // link
-    1,
-    0,
-    0,
-    0, // unlink
-    7,
-    0,
-    0,
-    0, // trap
-    1,
-    5,
-    6,
-    0, // spawn
-    8,
-    0,
-    0,
-    0, // recv
-    9,
-    1,
-    2,
-    4, // clause
-    4,
-    0,
-    0,
-    0, // jump
-    1,
-    3,
-    4,
-    0, // same
-    1,
-    2,
-    4,
-    0, // less
-    1,
-    0,
-    0,
-    0, // stop
+// The shape of each op, by its number.
+const SHAPES: [Shape; 16] = [
+    Shape::RV, // set
+    Shape::RS, // copy
+    Shape::R, // self
+    Shape::RS, // add
+    Shape::RS, // send
+    Shape::RS, // exit
+    Shape::R, // link
+    Shape::R, // unlink
+    Shape::F, // trap
+    Shape::RBQ, // spawn
+    Shape::N, // recv
+    Shape::KRST, // clause
+    Shape::T, // jump
+    Shape::RVT, // same
+    Shape::RST, // less
+    Shape::R, // stop
 ];
 
 // The number of operands of an op; 0 for a number that is no op.
@@ -291,18 +278,53 @@ pub fn operand_count(op: u8) -> u8
     0
 }
 
-// What operand k of an op is; 0 where it has none.
-pub fn operand_kind(op: u8, k: u8) -> u8
+// What operands an op has; nothing for a number that is no op.
+pub fn shape_of(op: u8) -> Shape
+    ensures { λ r. ⌜ kindsIn r ≡ kindsOf op ⌝ }
+{
+    if op < OPS {
+        let k = op as usize;
+        return SHAPES[k];
+    }
+    Shape::Nothing
+}
+
+// What operand k of an op is.
+pub fn operand_kind(op: u8, k: u8) -> OperandKind
     ensures { λ r. ⌜ r ≡ operandKind op k ⌝ }
 {
-    if 4 <= k {
-        return 0;
+    let no = OperandKind::NoOperand;
+    let r = OperandKind::RegisterR;
+    let s = OperandKind::RegisterS;
+    let v = OperandKind::ValueV;
+    let t = OperandKind::PlaceT;
+    let shape = shape_of(op);
+    match shape {
+        Shape::Nothing => one_of(k, no, no, no, no),
+        Shape::R => one_of(k, r, no, no, no),
+        Shape::RS => one_of(k, r, s, no, no),
+        Shape::RV => one_of(k, r, v, no, no),
+        Shape::F => one_of(k, OperandKind::FlagF, no, no, no),
+        Shape::RBQ => one_of(k, r, OperandKind::BehaviourB, OperandKind::ProcessQ, no),
+        Shape::N => one_of(k, OperandKind::CountN, no, no, no),
+        Shape::KRST => one_of(k, OperandKind::KindK, r, s, t),
+        Shape::T => one_of(k, t, no, no, no),
+        Shape::RVT => one_of(k, r, v, t, no),
+        Shape::RST => one_of(k, r, s, t, no),
     }
-    if op < OPS {
-        let at = (op as usize) * 4 + (k as usize);
-        return OPERAND_KINDS[at];
+}
+
+// Number k of four.
+fn one_of(k: u8, a: OperandKind, b: OperandKind, c: OperandKind, d: OperandKind) -> OperandKind
+    ensures { λ r. ⌜ r ≡ getD (a ∷ b ∷ c ∷ d ∷ []) k NoOperand ⌝ }
+{
+    match k {
+        0 => a,
+        1 => b,
+        2 => c,
+        3 => d,
+        _ => OperandKind::NoOperand,
     }
-    0
 }
 
 pub fn within(n: u8, least: u8, most: u8) -> bool

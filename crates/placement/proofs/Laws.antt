@@ -16,7 +16,7 @@ use lib.Seq.{drop-cons, getD-take, getD-drop}
 use Rattle.node.specs.declared.Op.{Op}
 use Rattle.node.specs.Lists.{allFrom}
 use Rattle.node.specs.Nodes.{noOp}
-use Rattle.node.specs.Ops.{kindsOf}
+use Rattle.node.specs.Ops.{clauseOp, kindsOf, recvOp}
 use Rattle.node.proofs.Lists.{all-more, all-stop, all-end, allOf-from}
 use Rattle.rules.specs.Behaviours.{Instruction, due, hasClauses, instruction, isClause, targetsFree, wellPlaced}
 use Rattle.behaviours.specs.Codes.{codeIn, hasTarget}
@@ -29,28 +29,28 @@ module _ (n : ℕ) (ops : List Op) (k t : ℕ) (h : t < n) {o : Op} (at : o ≡ 
   pub op-is : getD (codeIn n ops k) t (instruction noOp) ≡ instruction o
   op-is = code-at n ops k t h ∙ ap instruction (sym at)
 
-  recv-free : o .number ≡ 10 → targetsFree (codeIn n ops k) (instruction o) ≡ true
+  recv-free : o .number ≡ recvOp → targetsFree (codeIn n ops k) (instruction o) ≡ true
   unfolding hasTarget kindsOf
   recv-free e =
       let none : n ≡ cond (hasTarget (o .number)) (o .target) n = ap (λ (j : ℕ). cond (hasTarget j) (o .target) n) (sym e) in
       target-to n ops k o n none ∙ ap not (on-clause-end (codeIn n ops k) n (omega (arith, code-length n ops k)))
 
   module _ {r : Bool} where
-    pub placed-recv : o .number ≡ 10 → r ≡ hasClauses (o .small) (drop (t + 1) (codeIn n ops k)) → r ≡ wellPlaced (codeIn n ops k) t (getD (codeIn n ops k) t (instruction noOp))
+    pub placed-recv : o .number ≡ recvOp → r ≡ hasClauses (o .small) (drop (t + 1) (codeIn n ops k)) → r ≡ wellPlaced (codeIn n ops k) t (getD (codeIn n ops k) t (instruction noOp))
     unfolding wellPlaced instruction
-    placed-recv e p = rw op-is (rw (recv-free e, clause-count o e, eq-eqb (o .number) 10 e, ap (λ (j : ℕ). eqb j 11) e) (p ∙ sym (and-true _) ∙ sym (and-true _)))
+    placed-recv e p = rw op-is (rw (recv-free e, clause-count o e, eq-eqb (o .number) recvOp e, ap (λ (j : ℕ). eqb j clauseOp) e) (p ∙ sym (and-true _) ∙ sym (and-true _)))
 
-    pub placed-stray : o .number ≡ 11 → due 0 (take t (codeIn n ops k)) ≡ 0 → r ≡ false → r ≡ wellPlaced (codeIn n ops k) t (getD (codeIn n ops k) t (instruction noOp))
+    pub placed-stray : o .number ≡ clauseOp → due 0 (take t (codeIn n ops k)) ≡ 0 → r ≡ false → r ≡ wellPlaced (codeIn n ops k) t (getD (codeIn n ops k) t (instruction noOp))
     unfolding wellPlaced instruction
-    placed-stray e d p = rw op-is (rw (eq-eqb (o .number) 11 e, ap (λ (j : ℕ). eqb j 10) e, d) p)
+    placed-stray e d p = rw op-is (rw (eq-eqb (o .number) clauseOp e, ap (λ (j : ℕ). eqb j recvOp) e, d) p)
 
-    pub placed-due : o .number ≡ 11 → (due 0 (take t (codeIn n ops k)) ≡ 0 → ⊥) → r ≡ targetsFree (codeIn n ops k) (instruction o) → r ≡ wellPlaced (codeIn n ops k) t (getD (codeIn n ops k) t (instruction noOp))
+    pub placed-due : o .number ≡ clauseOp → (due 0 (take t (codeIn n ops k)) ≡ 0 → ⊥) → r ≡ targetsFree (codeIn n ops k) (instruction o) → r ≡ wellPlaced (codeIn n ops k) t (getD (codeIn n ops k) t (instruction noOp))
     unfolding wellPlaced instruction
-    placed-due e d p = rw op-is (rw (eq-eqb (o .number) 11 e, ap (λ (j : ℕ). eqb j 10) e, lt-ltb 0 (due 0 (take t (codeIn n ops k))) (omega arith)) p)
+    placed-due e d p = rw op-is (rw (eq-eqb (o .number) clauseOp e, ap (λ (j : ℕ). eqb j recvOp) e, lt-ltb 0 (due 0 (take t (codeIn n ops k))) (omega arith)) p)
 
-    pub placed-other : (o .number ≡ 10 → ⊥) → (o .number ≡ 11 → ⊥) → r ≡ targetsFree (codeIn n ops k) (instruction o) → r ≡ wellPlaced (codeIn n ops k) t (getD (codeIn n ops k) t (instruction noOp))
+    pub placed-other : (o .number ≡ recvOp → ⊥) → (o .number ≡ clauseOp → ⊥) → r ≡ targetsFree (codeIn n ops k) (instruction o) → r ≡ wellPlaced (codeIn n ops k) t (getD (codeIn n ops k) t (instruction noOp))
     unfolding wellPlaced instruction
-    placed-other e d p = rw op-is (rw (ne-eqb (o .number) 10 e, ne-eqb (o .number) 11 d) p)
+    placed-other e d p = rw op-is (rw (ne-eqb (o .number) recvOp e, ne-eqb (o .number) clauseOp d) p)
 
 -- ---- the clauses of a recv
 
@@ -80,19 +80,19 @@ module _ (n : ℕ) (ops : List Op) (k t m : ℕ) where
 
     module _ (i : ℕ) {g : Bool} (inv : g ≡ clausesFrom i) where
       module _ (l : i < m) {o : Op} (at : o ≡ getD ops (32 * k + (t + 1 + i)) noOp) where
-        clause-at : isClause (getD (take m rest) i (instruction noOp)) ≡ eqb (o .number) 11
+        clause-at : isClause (getD (take m rest) i (instruction noOp)) ≡ eqb (o .number) clauseOp
         unfolding rest instruction
         clause-at =
             ap isClause (getD-take m rest i (instruction noOp) l ∙ getD-drop (t + 1) (codeIn n ops k) i (instruction noOp) ∙ code-at n ops k (t + 1 + i) (omega arith))
-            ∙ ap (λ (x : Op). eqb (x .number) 11) (sym at)
+            ∙ ap (λ (x : Op). eqb (x .number) clauseOp) (sym at)
 
-        pub clause-stop : (o .number ≡ 11 → ⊥) → false ≡ g
+        pub clause-stop : (o .number ≡ clauseOp → ⊥) → false ≡ g
         unfolding rest
-        clause-stop d = all-stop (λ u x. isClause x) (take m rest) i i (instruction noOp) (omega (arith, clauses-length)) (clause-at ∙ ne-eqb (o .number) 11 d) inv
+        clause-stop d = all-stop (λ u x. isClause x) (take m rest) i i (instruction noOp) (omega (arith, clauses-length)) (clause-at ∙ ne-eqb (o .number) clauseOp d) inv
 
-        pub clause-more : o .number ≡ 11 → g ≡ clausesFrom (i + 1)
+        pub clause-more : o .number ≡ clauseOp → g ≡ clausesFrom (i + 1)
         unfolding rest
-        clause-more d = all-more (λ u x. isClause x) (take m rest) i i (instruction noOp) (omega (arith, clauses-length)) (clause-at ∙ eq-eqb (o .number) 11 d) inv
+        clause-more d = all-more (λ u x. isClause x) (take m rest) i i (instruction noOp) (omega (arith, clauses-length)) (clause-at ∙ eq-eqb (o .number) clauseOp d) inv
 
       pub clauses-end : m ≤ i → true ≡ g
       unfolding rest

@@ -6,8 +6,8 @@ use lib.IntN.{pos}
 use Rattle.node.specs.declared.Op.{Op}
 use Rattle.node.specs.declared.Value.{Value}
 use Rattle.node.specs.declared.Value.the-variants.{Int}
-use Rattle.node.specs.Ops.{kindsOf}
-use Rattle.node.specs.Values.{intZero, pid}
+use Rattle.node.specs.Ops.{clauseOp, kindsOf, recvOp}
+use Rattle.node.specs.Values.{intKind, intZero, pid}
 use Rattle.node.specs.Texts.{bytes}
 use Rattle.rules.specs.Behaviours.{instruction, operand, wellPlaced, hasClauses, targetsFree}
 use Rattle.rules.specs.Nodes.{code, behavioursOf}
@@ -35,8 +35,8 @@ samplePlan = record {
       ∷ opWith 0 1 0 0 0 (Int (pos 12))  -- set,1,i12
       ∷ opWith 4 0 1 0 0 intZero  -- send,0,1
       ∷ [])
-      ∷ (opWith 10 0 0 0 1 intZero  -- recv,1
-      ∷ opWith 11 0 1 2 1 intZero  -- clause,int,0,1,2
+      ∷ (opWith recvOp 0 0 0 1 intZero  -- recv,1
+      ∷ opWith clauseOp 0 1 2 intKind intZero  -- clause,int,0,1,2
       ∷ [])
       ∷ [];
   starts = startWith 1 1 ∷ startWith 2 2 ∷ [];

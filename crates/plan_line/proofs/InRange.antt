@@ -15,22 +15,23 @@ use lib.IntN.{pos, negℤ}
 use lib.ListN.{length, getD, drop}
 use Rattle.node.specs.declared.Op.{Op}
 use Rattle.node.specs.declared.Value.the-variants.{Int, Atom}
-use Rattle.node.specs.Lists.{allOf, rising}
-use Rattle.node.specs.Ops.{operandCounts, kindsOf}
-use Rattle.node.specs.Values.{intZero, pid, fitsInt, isNumber, valueSound}
+use Rattle.node.specs.declared.OperandKind.{OperandKind}
+use Rattle.node.specs.declared.OperandKind.the-variants.{NoOperand, RegisterR, RegisterS, ValueV, PlaceT, BehaviourB, ProcessQ, FlagF, CountN, KindK}
+use Rattle.node.specs.Lists.{allOf}
+use Rattle.node.specs.Ops.{isKind, kindsOf, opCount, operandCounts, opKinds, opWords}
+use Rattle.node.specs.Values.{anyKind, exactKind, intZero, lastKind, pid, fitsInt, isNumber, valueSound}
+use Rattle.node.proofs.Ops.{kinds-length}
 use Rattle.rules.specs.Answers.{Answer, refused, done}
-use Rattle.rules.specs.Behaviours as rules
-use Rattle.rules.specs.Behaviours.{operand, operandInRange}
-use Rattle.rules.proofs.All.{both, parts, allOf-at, rising-at}
+use Rattle.rules.specs.Behaviours.{Operand, operand, operandInRange}
+use Rattle.rules.proofs.All.{both, parts, allOf-any}
 use Rattle.text.specs.declared.Parsed.{Parsed}
 use Rattle.text.specs.Numbers.{malformed, outOfRange, Signed, numberOf, rangedOf}
 use Rattle.text.specs.Parts.{fieldsOf, indexOf, startsWith}
 use Rattle.text.specs.Values.{readAs, byLetter, intOf, minusOf, noValue, plusOf, rangedValue, valueOf}
 use Rattle.plan_line.specs.declared.Coded.{Coded}
-use Rattle.plan_line.specs.declared.Operand.{Operand}
+use Rattle.plan_line.specs.declared.ReadOperand.{ReadOperand}
 use Rattle.plan_line.specs.Lines.{opKey, opTold}
-use Rattle.plan_line.specs.Ops.{bare, clauseKind, clauseWords, codedOf, exact, withJoined, noCode, operandOf, operandsOf, opOf, opWords, withOperand}
-use Rattle.plan_line.proofs.Ops.{kinds-length}
+use Rattle.plan_line.specs.Ops.{bare, clauseKind, clauseWords, codedOf, exact, withJoined, noCode, operandOf, operandsOf, opOf, withOperand}
 use Rattle.plan_line.proofs.Ranges.{ranged-kept, worse-none}
 
 -- ---- values
@@ -87,93 +88,91 @@ unfolding fitsInt
 zero-kept true = refl
 zero-kept false = refl
 
-clause-kept : (l : List ℕ) → clauseKind l .refusal ≡ 0 → So (leb (clauseKind l .number) 5 && valueSound (cond (eqb (clauseKind l .number) 5) (clauseKind l .value) intZero))
+clause-kept : (l : List ℕ) → clauseKind l .refusal ≡ 0 → So (leb (clauseKind l .number) lastKind && valueSound (cond (eqb (clauseKind l .number) exactKind) (clauseKind l .value) intZero))
 unfolding clauseKind fitsInt
-clause-kept l = go (ltb (indexOf l (fieldsOf clauseWords)) 5) refl
+clause-kept l = go (ltb (indexOf l clauseWords) (length clauseWords)) refl
   where
-    go : (t : Bool) → ltb (indexOf l (fieldsOf clauseWords)) 5 ≡ t → let x = cond t (record { refusal = 0; number = indexOf l (fieldsOf clauseWords); value = intZero }) (exact (valueOf l)) in
-        x .refusal ≡ 0 → So (leb (x .number) 5 && valueSound (cond (eqb (x .number) 5) (x .value) intZero))
-    go true e h = let b = ltb-true (indexOf l (fieldsOf clauseWords)) 5 e in both (le-leb (indexOf l (fieldsOf clauseWords)) 5 (omega arith)) (zero-kept (eqb (indexOf l (fieldsOf clauseWords)) 5))
+    go : (t : Bool) → ltb (indexOf l clauseWords) (length clauseWords) ≡ t →
+        let x = cond t (record { refusal = 0; number = indexOf l clauseWords + anyKind; value = intZero }) (exact (valueOf l)) in
+        x .refusal ≡ 0 → So (leb (x .number) lastKind && valueSound (cond (eqb (x .number) exactKind) (x .value) intZero))
+    go true e h =
+        let b = ltb-true (indexOf l clauseWords) (length clauseWords) e in
+        both (le-leb (indexOf l clauseWords + anyKind) lastKind (omega arith)) (zero-kept (eqb (indexOf l clauseWords + anyKind) exactKind))
     go false e h = value-kept l h
 
 module _ (c n : ℕ) where
-  operand-kept : (o : Op) (kind : ℕ) (l : List ℕ) → operandOf c n kind l .refusal ≡ 0 → So (operandInRange c n kind (operand (withOperand o kind (operandOf c n kind l)) kind))
+  operand-kept : (o : Op) (kind : OperandKind) (l : List ℕ) → operandOf c n kind l .refusal ≡ 0 → So (operandInRange c n kind (operand (withOperand o kind (operandOf c n kind l)) kind))
   unfolding operandInRange operand withOperand operandOf isNumber
-  operand-kept o zero l h = refl
-  operand-kept o (suc zero) l h = le-leb _ 3 (ranged-kept l 0 3 .most)
-  operand-kept o (suc (suc zero)) l h = le-leb _ 3 (ranged-kept l 0 3 .most)
-  operand-kept o (suc (suc (suc zero))) l h = value-kept l h
-  operand-kept o (suc (suc (suc (suc zero)))) l h = le-leb _ n (ranged-kept l 0 n .most)
-  operand-kept o (suc (suc (suc (suc (suc zero))))) l h = let k = ranged-kept l 1 c in both (le-leb 1 _ (k .least h)) (le-leb _ c (k .most))
-  operand-kept o (suc (suc (suc (suc (suc (suc zero)))))) l h = let k = ranged-kept l 1 16 in both (le-leb 1 _ (k .least h)) (le-leb _ 16 (k .most))
-  operand-kept o (suc (suc (suc (suc (suc (suc (suc zero))))))) l h = le-leb _ 1 (ranged-kept l 0 1 .most)
-  operand-kept o (suc (suc (suc (suc (suc (suc (suc (suc zero)))))))) l h = let k = ranged-kept l 1 8 in both (le-leb 1 _ (k .least h)) (le-leb _ 8 (k .most))
-  operand-kept o (suc (suc (suc (suc (suc (suc (suc (suc (suc zero))))))))) l h = clause-kept l h
-  operand-kept o (suc (suc (suc (suc (suc (suc (suc (suc (suc (suc kind)))))))))) l h = refl
+  operand-kept o NoOperand l h = refl
+  operand-kept o RegisterR l h = le-leb _ 3 (ranged-kept l 0 3 .most)
+  operand-kept o RegisterS l h = le-leb _ 3 (ranged-kept l 0 3 .most)
+  operand-kept o ValueV l h = value-kept l h
+  operand-kept o PlaceT l h = le-leb _ n (ranged-kept l 0 n .most)
+  operand-kept o BehaviourB l h = let k = ranged-kept l 1 c in both (le-leb 1 _ (k .least h)) (le-leb _ c (k .most))
+  operand-kept o ProcessQ l h = let k = ranged-kept l 1 16 in both (le-leb 1 _ (k .least h)) (le-leb _ 16 (k .most))
+  operand-kept o FlagF l h = le-leb _ 1 (ranged-kept l 0 1 .most)
+  operand-kept o CountN l h = let k = ranged-kept l 1 8 in both (le-leb 1 _ (k .least h)) (le-leb _ 8 (k .most))
+  operand-kept o KindK l h = clause-kept l h
 
 -- ---- operands of kinds that are apart: each is put into fields of its own
 
-abbrev smallKind : ℕ → Bool
-smallKind kind = eqb kind 7 || eqb kind 8 || eqb kind 9
+abbrev smallKind : OperandKind → Bool
+smallKind kind = isKind FlagF kind || isKind CountN kind || isKind KindK kind
 
-abbrev valueKind : ℕ → Bool
-valueKind kind = eqb kind 3 || eqb kind 9
+abbrev valueKind : OperandKind → Bool
+valueKind kind = isKind ValueV kind || isKind KindK kind
 
-abbrev apart : ℕ → ℕ → Bool
-apart k j = not (eqb j k) && not (smallKind k && smallKind j) && not (valueKind k && valueKind j)
+abbrev apart : OperandKind → OperandKind → Bool
+apart k j = not (isKind k j) && not (smallKind k && smallKind j) && not (valueKind k && valueKind j)
 
-record Apart (k j : ℕ) : Type 0 where
-  other : eqb j k ≡ false
+record Apart (k j : OperandKind) : Type 0 where
+  other : isKind k j ≡ false
   small : smallKind k ≡ true → smallKind j ≡ false
   value : valueKind k ≡ true → valueKind j ≡ false
 
-apart-of : (k j : ℕ) → So (apart k j) → Apart k j
+apart-of : (k j : OperandKind) → So (apart k j) → Apart k j
 apart-of k j h =
-    let a = parts (not (eqb j k) && not (smallKind k && smallKind j)) (not (valueKind k && valueKind j)) h in
-    let b = parts (not (eqb j k)) (not (smallKind k && smallKind j)) (a .0) in
-    record { other = not-true (eqb j k) (b .0); small = λ e. not-true (smallKind j) (rw e at (b .1)); value = λ e. not-true (valueKind j) (rw e at (a .1)) }
+    let a = parts (not (isKind k j) && not (smallKind k && smallKind j)) (not (valueKind k && valueKind j)) h in
+    let b = parts (not (isKind k j)) (not (smallKind k && smallKind j)) (a .0) in
+    record { other = not-true (isKind k j) (b .0); small = λ e. not-true (smallKind j) (rw e at (b .1)); value = λ e. not-true (valueKind j) (rw e at (a .1)) }
 
-operand-untouched : (o : Op) (k j : ℕ) (x : Operand) → Apart k j → operand (withOperand o j x) k ≡ operand o k
+operand-untouched : (o : Op) (k j : OperandKind) (x : ReadOperand) → Apart k j → operand (withOperand o j x) k ≡ operand o k
 unfolding operand withOperand
-operand-untouched o zero j x h = refl
-operand-untouched o (suc zero) j x h = rw (h .other)
-operand-untouched o (suc (suc zero)) j x h = rw (h .other)
-operand-untouched o (suc (suc (suc zero))) j x h = rw (h .value refl)
-operand-untouched o (suc (suc (suc (suc zero)))) j x h = rw (h .other)
-operand-untouched o (suc (suc (suc (suc (suc zero))))) j x h = rw (h .other)
-operand-untouched o (suc (suc (suc (suc (suc (suc zero)))))) j x h = rw (h .other)
-operand-untouched o (suc (suc (suc (suc (suc (suc (suc zero))))))) j x h = rw (h .small refl)
-operand-untouched o (suc (suc (suc (suc (suc (suc (suc (suc zero)))))))) j x h = rw (h .small refl)
-operand-untouched o (suc (suc (suc (suc (suc (suc (suc (suc (suc zero))))))))) j x h = rw (h .small refl, h .value refl)
-operand-untouched o (suc (suc (suc (suc (suc (suc (suc (suc (suc (suc k)))))))))) j x h = refl
+operand-untouched o NoOperand j x h = refl
+operand-untouched o RegisterR j x h = rw (h .other)
+operand-untouched o RegisterS j x h = rw (h .other)
+operand-untouched o ValueV j x h = rw (h .value refl)
+operand-untouched o PlaceT j x h = rw (h .other)
+operand-untouched o BehaviourB j x h = rw (h .other)
+operand-untouched o ProcessQ j x h = rw (h .other)
+operand-untouched o FlagF j x h = rw (h .small refl)
+operand-untouched o CountN j x h = rw (h .small refl)
+operand-untouched o KindK j x h = rw (h .small refl, h .value refl)
 
 -- each kind is apart from those behind it
-distinct : List ℕ → Bool
+distinct : List OperandKind → Bool
 distinct [] = true
 distinct (k ∷ ks) = allOf (apart k) ks && distinct ks
 
-distinct-kinds : (k : ℕ) → k < 16 → So (distinct (kindsOf k))
+distinct-kinds : (k : ℕ) → So (distinct (kindsOf k))
 unfolding distinct kindsOf
-distinct-kinds k h =
-    let all : So (allOf (λ (j : ℕ). distinct (kindsOf j)) (rising 0 16)) = refl in
-    let e : 0 + k ≡ k = omega arith in
-    subst (λ (j : ℕ). So (distinct (kindsOf j))) (rising-at 0 16 k 0 h ∙ e) (allOf-at (λ (j : ℕ). distinct (kindsOf j)) 0 (rising 0 16) all k h)
+distinct-kinds k = allOf-any distinct [] opKinds refl refl k
 
 module _ (c n : ℕ) where
   -- a refusal stays, and so does the op's number
-  operands-clean : (o : Coded) (ks : List ℕ) (ls : List (List ℕ)) → operandsOf c n o ks ls .refusal ≡ 0 → o .refusal ≡ 0
+  operands-clean : (o : Coded) (ks : List OperandKind) (ls : List (List ℕ)) → operandsOf c n o ks ls .refusal ≡ 0 → o .refusal ≡ 0
   unfolding operandsOf
   operands-clean o [] ls h = h
   operands-clean o (k ∷ ks) [] h = h
   operands-clean o (k ∷ ks) (l ∷ ls) h = worse-none (o .refusal) (operandOf c n k l .refusal) (operands-clean (withJoined o k (operandOf c n k l)) ks ls h) .0
 
-  operands-number : (o : Coded) (ks : List ℕ) (ls : List (List ℕ)) → operandsOf c n o ks ls .op .number ≡ o .op .number
+  operands-number : (o : Coded) (ks : List OperandKind) (ls : List (List ℕ)) → operandsOf c n o ks ls .op .number ≡ o .op .number
   unfolding operandsOf withOperand
   operands-number o [] ls = refl
   operands-number o (k ∷ ks) [] = refl
   operands-number o (k ∷ ks) (l ∷ ls) = operands-number (withJoined o k (operandOf c n k l)) ks ls
 
-  operands-untouched : (o : Coded) (k : ℕ) (ks : List ℕ) (ls : List (List ℕ)) → So (allOf (apart k) ks) → operand (operandsOf c n o ks ls .op) k ≡ operand (o .op) k
+  operands-untouched : (o : Coded) (k : OperandKind) (ks : List OperandKind) (ls : List (List ℕ)) → So (allOf (apart k) ks) → operand (operandsOf c n o ks ls .op) k ≡ operand (o .op) k
   unfolding operandsOf
   operands-untouched o k [] ls h = refl
   operands-untouched o k (j ∷ ks) [] h = refl
@@ -181,10 +180,10 @@ module _ (c n : ℕ) where
       let w = parts (apart k j) (allOf (apart k) ks) h in
       operands-untouched (withJoined o j (operandOf c n j l)) k ks ls (w .1) ∙ operand-untouched (o .op) k j (operandOf c n j l) (apart-of k j (w .0))
 
-  abbrev fitting : Op → ℕ → Bool
+  abbrev fitting : Op → OperandKind → Bool
   fitting o k = operandInRange c n k (operand o k)
 
-  operands-kept : (o : Coded) (ks : List ℕ) (ls : List (List ℕ)) → length ls ≡ length ks → So (distinct ks) → operandsOf c n o ks ls .refusal ≡ 0 → So (allOf (fitting (operandsOf c n o ks ls .op)) ks)
+  operands-kept : (o : Coded) (ks : List OperandKind) (ls : List (List ℕ)) → length ls ≡ length ks → So (distinct ks) → operandsOf c n o ks ls .refusal ≡ 0 → So (allOf (fitting (operandsOf c n o ks ls .op)) ks)
   unfolding operandsOf distinct
   operands-kept o [] ls e d h = refl
   operands-kept o (k ∷ ks) [] e d h = absurd (omega (arith, e))
@@ -193,33 +192,33 @@ module _ (c n : ℕ) where
       let read = operandOf c n k l in
       let next = withJoined o k read in
       let clean = worse-none (o .refusal) (read .refusal) (operands-clean next ks ls h) .1 in
-      let here = subst (λ (x : rules.Operand). So (operandInRange c n k x)) (sym (operands-untouched next k ks ls (w .0))) (operand-kept c n (o .op) k l clean) in
+      let here = subst (λ (x : Operand). So (operandInRange c n k x)) (sym (operands-untouched next k ks ls (w .0))) (operand-kept c n (o .op) k l clean) in
       both here (operands-kept next ks ls (omega arith) (w .1) h)
 
   abbrev OpKept : Coded → Type 0
-  OpKept x = x .refusal ≡ 0 → (x .op .number < 16) × So (allOf (fitting (x .op)) (kindsOf (x .op .number)))
+  OpKept x = x .refusal ≡ 0 → (x .op .number < opCount) × So (allOf (fitting (x .op)) (kindsOf (x .op .number)))
 
   no-code-kept : OpKept noCode
   no-code-kept e = absurd (omega (arith, e))
 
   op-of-kept : (k : ℕ) (operands : List (List ℕ)) → OpKept (opOf c n k operands)
   unfolding opOf
-  op-of-kept k ls = go (ltb k 16) (eqb (length ls) (getD operandCounts k 0)) refl refl
+  op-of-kept k ls = go (ltb k opCount) (eqb (length ls) (getD operandCounts k 0)) refl refl
     where
-      go : (a b : Bool) → ltb k 16 ≡ a → eqb (length ls) (getD operandCounts k 0) ≡ b → OpKept (cond (a && b) (operandsOf c n (bare k) (kindsOf k) ls) noCode)
+      go : (a b : Bool) → ltb k opCount ≡ a → eqb (length ls) (getD operandCounts k 0) ≡ b → OpKept (cond (a && b) (operandsOf c n (bare k) (kindsOf k) ls) noCode)
       go false b p q = no-code-kept
       go true false p q = no-code-kept
       go true true p q = λ e.
-          let h = ltb-true k 16 p in
-          let size : length ls ≡ length (kindsOf k) = eqb-true (length ls) (getD operandCounts k 0) q ∙ sym (kinds-length k h) in
+          let h = ltb-true k opCount p in
+          let size : length ls ≡ length (kindsOf k) = eqb-true (length ls) (getD operandCounts k 0) q ∙ sym (kinds-length k) in
           let is = operands-number (bare k) (kindsOf k) ls in
-          let kept = operands-kept (bare k) (kindsOf k) ls size (distinct-kinds k h) e in
+          let kept = operands-kept (bare k) (kindsOf k) ls size (distinct-kinds k) e in
           (rw is h, subst (λ (j : ℕ). So (allOf (fitting (operandsOf c n (bare k) (kindsOf k) ls .op)) (kindsOf j))) (sym is) kept)
 
-  pub op-kept : (line : List ℕ) → opTold c n line .refusal ≡ 0 → (opTold c n line .op .number < 16) × So (allOf (λ (k : ℕ). operandInRange c n k (operand (opTold c n line .op) k)) (kindsOf (opTold c n line .op .number)))
+  pub op-kept : (line : List ℕ) → opTold c n line .refusal ≡ 0 → (opTold c n line .op .number < opCount) × So (allOf (λ (k : OperandKind). operandInRange c n k (operand (opTold c n line .op) k)) (kindsOf (opTold c n line .op .number)))
   unfolding opTold codedOf
   op-kept line = go (startsWith opKey line)
     where
       go : (t : Bool) → OpKept (cond t (codedOf c n (fieldsOf (drop (length opKey) line))) noCode)
-      go true = op-of-kept (indexOf (getD (fieldsOf (drop (length opKey) line)) 0 []) (fieldsOf opWords)) (drop 1 (fieldsOf (drop (length opKey) line)))
+      go true = op-of-kept (indexOf (getD (fieldsOf (drop (length opKey) line)) 0 []) opWords) (drop 1 (fieldsOf (drop (length opKey) line)))
       go false = no-code-kept

@@ -2,16 +2,18 @@
 --   header-told count-told op-told start-told   what is told of each kind of line is at most 13
 use mathlib.Core.Bool.{Bool, true, false, _&&_, cond}
 use mathlib.Core.List.{List, [], _∷_}
-use Prim.Native.Nat.{ℕ, _≤_, min}
+use Prim.Native.Nat.{ℕ, _+_, _≤_, min}
 use Prim.Native.Char.{code}
 use native.Mathlib.Omega.{arith}
 use lib.Dec.{eqb, leb, ltb}
 use lib.IntN.{pos, negℤ}
 use lib.ListN.{length, getD, drop}
+use Rattle.node.specs.declared.OperandKind.{OperandKind}
+use Rattle.node.specs.declared.OperandKind.the-variants.{NoOperand, RegisterR, RegisterS, ValueV, PlaceT, BehaviourB, ProcessQ, FlagF, CountN, KindK}
 use Rattle.node.specs.declared.ProcessNumber.{ProcessNumber}
 use Rattle.node.specs.declared.Value.the-variants.{Int, Atom}
-use Rattle.node.specs.Ops.{operandCounts, kindsOf}
-use Rattle.node.specs.Values.{intZero, pid}
+use Rattle.node.specs.Ops.{kindsOf, opCount, operandCounts, opWords}
+use Rattle.node.specs.Values.{anyKind, intZero, pid}
 use Rattle.rules.proofs.Told.{Told}
 use Rattle.rules.specs.Answers.{done, need}
 use Rattle.text.specs.Numbers.{malformed, outOfRange, negative, numberForm, numberValue, ceiling, numberOf, rangedOf}
@@ -19,7 +21,7 @@ use Rattle.text.specs.Parts.{equal, fieldsOf, indexOf, startsWith}
 use Rattle.text.specs.Values.{readAs, byLetter, intOf, minusOf, noValue, plusOf, rangedValue, valueOf}
 use Rattle.plan_line.specs.declared.Coded.{Coded}
 use Rattle.plan_line.specs.Lines.{notRising, header, opKey, headerTold, headerLine, answered, countTold, countLine, opTold, opLine, startTold, startLine}
-use Rattle.plan_line.specs.Ops.{bare, clauseKind, clauseWords, codedOf, exact, withJoined, noCode, numeric, operandOf, operandsOf, opOf, opWords, lowest, highest}
+use Rattle.plan_line.specs.Ops.{bare, clauseKind, clauseWords, codedOf, exact, withJoined, noCode, operandOf, operandsOf, opOf}
 use Rattle.plan_line.proofs.Ranges.{ranged-kept, count-kept, start-kept, worse-most}
 
 -- ---- values
@@ -64,23 +66,27 @@ value-told (b ∷ l) = go (eqb b (code "i")) (eqb b (code "a")) (eqb b (code "p"
 -- ---- operands
 clause-told : (l : List ℕ) → clauseKind l .refusal ≤ outOfRange
 unfolding clauseKind
-clause-told l = go (ltb (indexOf l (fieldsOf clauseWords)) 5)
+clause-told l = go (ltb (indexOf l clauseWords) (length clauseWords))
   where
-    go : (t : Bool) → cond t (record { refusal = 0; number = indexOf l (fieldsOf clauseWords); value = intZero }) (exact (valueOf l)) .refusal ≤ outOfRange
+    go : (t : Bool) → cond t (record { refusal = 0; number = indexOf l clauseWords + anyKind; value = intZero }) (exact (valueOf l)) .refusal ≤ outOfRange
     go true = omega arith
     go false = value-told l
 
 module _ (c n : ℕ) where
-  operand-told : (kind : ℕ) (l : List ℕ) → operandOf c n kind l .refusal ≤ outOfRange
+  operand-told : (kind : OperandKind) (l : List ℕ) → operandOf c n kind l .refusal ≤ outOfRange
   unfolding operandOf
-  operand-told kind l = go (eqb kind 3) (eqb kind 9)
-    where
-      go : (x y : Bool) → cond x (exact (valueOf l)) (cond y (clauseKind l) (numeric (rangedOf (numberOf l) (getD lowest kind 0) (getD (highest c n) kind 0)))) .refusal ≤ outOfRange
-      go true y = value-told l
-      go false true = clause-told l
-      go false false = ranged-kept l (getD lowest kind 0) (getD (highest c n) kind 0) .told
+  operand-told NoOperand l = ranged-kept l 0 0 .told
+  operand-told RegisterR l = ranged-kept l 0 3 .told
+  operand-told RegisterS l = ranged-kept l 0 3 .told
+  operand-told ValueV l = value-told l
+  operand-told PlaceT l = ranged-kept l 0 n .told
+  operand-told BehaviourB l = ranged-kept l 1 c .told
+  operand-told ProcessQ l = ranged-kept l 1 16 .told
+  operand-told FlagF l = ranged-kept l 0 1 .told
+  operand-told CountN l = ranged-kept l 1 8 .told
+  operand-told KindK l = clause-told l
 
-  operands-told : (o : Coded) (kinds : List ℕ) (ls : List (List ℕ)) → o .refusal ≤ outOfRange → operandsOf c n o kinds ls .refusal ≤ outOfRange
+  operands-told : (o : Coded) (kinds : List OperandKind) (ls : List (List ℕ)) → o .refusal ≤ outOfRange → operandsOf c n o kinds ls .refusal ≤ outOfRange
   unfolding operandsOf
   operands-told o [] ls h = h
   operands-told o (kind ∷ kinds) [] h = h
@@ -90,8 +96,8 @@ module _ (c n : ℕ) where
   coded-told : (fields : List (List ℕ)) → codedOf c n fields .refusal ≤ outOfRange
   unfolding codedOf opOf
   coded-told fields =
-      let k = indexOf (getD fields 0 []) (fieldsOf opWords) in
-      go k (drop 1 fields) (ltb k 16 && eqb (length (drop 1 fields)) (getD operandCounts k 0))
+      let k = indexOf (getD fields 0 []) opWords in
+      go k (drop 1 fields) (ltb k opCount && eqb (length (drop 1 fields)) (getD operandCounts k 0))
     where
       go : (k : ℕ) (operands : List (List ℕ)) (t : Bool) → cond t (operandsOf c n (bare k) (kindsOf k) operands) noCode .refusal ≤ outOfRange
       go k operands true = operands-told (bare k) (kindsOf k) operands (omega arith)

@@ -1,25 +1,28 @@
 // The lines of a plan, each read on its own.
+use node::ANY;
 use node::BehaviourNumber;
 use node::EXACT;
+use node::LAST_KIND;
+use node::OPS;
 use node::Op;
+use node::OperandKind;
 use node::ProcessNumber;
 use node::Value;
 use text::MALFORMED;
 use text::Parsed;
 use text::Ranged;
 ghost use mathlib.Core.Path.{_≡_};
-ghost use Prim.Native.Nat.{_<_};
 ghost use lib.ListN.{length, getD, drop};
 ghost use Rattle.node.specs.Ops.{operandCounts, kindsOf};
 ghost use Rattle.text.specs.Parts.{fieldsOf};
-ghost use Rattle.plan_line.specs.Ops.{worse, exact, clauseKind, lowest, highest, operandOf, withValue, withOperand, withJoined, operandsOf, bare, noCode, codedOf};
+ghost use Rattle.plan_line.specs.Ops.{worse, ranged, exact, clauseKind, operandOf, withValue, withOperand, withJoined, operandsOf, bare, noCode, codedOf};
 ghost use Rattle.plan_line.specs.Lines.{headerTold, countTold, opTold, startOf, noStart, risen, startTold};
 
 // Start numbers that do not rise.
 const NOT_RISING: u8 = 13;
 
 // An operand as it is read: the refusal, 11 or 12, or 0; its number; and its value, where it has one.
-struct Operand {
+struct ReadOperand {
     refusal: u8,
     number: u8,
     value: Value,
@@ -102,7 +105,7 @@ fn read_op(rest: &[u8], count: u8, len: u8) -> Coded
     let words =
         b"set,copy,self,add,send,exit,link,unlink,trap,spawn,recv,clause,jump,same,less,stop";
     let k = text::word_index(words, text::field(rest, 0));
-    if k < 16 {
+    if k < (OPS as usize) {
         let number = k as u8;
         if text::count_fields(rest) == (node::operand_count(number) as usize) + 1 {
             return operands(rest, number, count, len);
@@ -139,7 +142,7 @@ fn bare_op(number: u8) -> Coded
 
 // The operands of op `number`, each read by its kind.
 fn operands(rest: &[u8], number: u8, count: u8, len: u8) -> Coded
-    requires { ⌜ (number < 16) × (length (drop 1 (fieldsOf (now rest))) ≡ getD operandCounts number 0) ⌝ }
+    requires { ⌜ length (drop 1 (fieldsOf (now rest))) ≡ getD operandCounts number 0 ⌝ }
     ensures { λ r. ⌜ r ≡ operandsOf count len (bare number) (kindsOf number) (drop 1 (fieldsOf (now (rest .entry)))) ⌝ }
 {
     let n = node::operand_count(number);
@@ -155,7 +158,7 @@ fn operands(rest: &[u8], number: u8, count: u8, len: u8) -> Coded
 }
 
 // One operand more.
-fn with_joined(coded: Coded, kind: u8, x: Operand) -> Coded
+fn with_joined(coded: Coded, kind: OperandKind, x: ReadOperand) -> Coded
     ensures { λ r. ⌜ r ≡ withJoined coded kind x ⌝ }
 {
     let op = coded.op;
@@ -166,40 +169,40 @@ fn with_joined(coded: Coded, kind: u8, x: Operand) -> Coded
 }
 
 // An op with an operand of a kind.
-fn with_operand(op: Op, kind: u8, x: Operand) -> Op
+fn with_operand(op: Op, kind: OperandKind, x: ReadOperand) -> Op
     ensures { λ r. ⌜ r ≡ withOperand op kind x ⌝ }
 {
     let mut o = op;
     let kept = op.value;
     let v = x.value;
     match kind {
-        1 => {
+        OperandKind::NoOperand => o,
+        OperandKind::RegisterR => {
             o.r = x.number;
             o
         }
-        2 => {
+        OperandKind::RegisterS => {
             o.s = x.number;
             o
         }
-        3 => with_value(o, o.small, v),
-        4 => {
+        OperandKind::ValueV => with_value(o, o.small, v),
+        OperandKind::PlaceT => {
             o.target = x.number;
             o
         }
-        5 => {
+        OperandKind::BehaviourB => {
             let b = BehaviourNumber(x.number);
             o.behaviour = b;
             o
         }
-        6 => {
+        OperandKind::ProcessQ => {
             let q = ProcessNumber(x.number);
             o.process = q;
             o
         }
-        7 => with_value(o, x.number, kept),
-        8 => with_value(o, x.number, kept),
-        9 => with_value(o, x.number, v),
-        _ => o,
+        OperandKind::FlagF => with_value(o, x.number, kept),
+        OperandKind::CountN => with_value(o, x.number, kept),
+        OperandKind::KindK => with_value(o, x.number, v),
     }
 }
 
@@ -222,17 +225,28 @@ fn with_value(op: Op, small: u8, value: Value) -> Op
 }
 
 // An operand of a kind.
-fn read_operand(s: &[u8], kind: u8, count: u8, len: u8) -> Operand
+fn read_operand(s: &[u8], kind: OperandKind, count: u8, len: u8) -> ReadOperand
     ensures { λ r. ⌜ r ≡ operandOf count len kind (now (s .entry)) ⌝ }
 {
-    if kind == 3 {
-        return exact_value(text::read_value(s));
+    match kind {
+        OperandKind::NoOperand => ranged(s, 0, 0),
+        OperandKind::RegisterR => ranged(s, 0, 3),
+        OperandKind::RegisterS => ranged(s, 0, 3),
+        OperandKind::ValueV => exact_value(text::read_value(s)),
+        OperandKind::PlaceT => ranged(s, 0, len),
+        OperandKind::BehaviourB => ranged(s, 1, count),
+        OperandKind::ProcessQ => ranged(s, 1, 16),
+        OperandKind::FlagF => ranged(s, 0, 1),
+        OperandKind::CountN => ranged(s, 1, 8),
+        OperandKind::KindK => clause_kind(s),
     }
-    if kind == 9 {
-        return clause_kind(s);
-    }
-    let x = text::read_ranged(s, low_of(kind), high_of(kind, count, len));
-    Operand {
+}
+
+fn ranged(s: &[u8], low: u8, high: u8) -> ReadOperand
+    ensures { λ r. ⌜ r ≡ ranged low high (now (s .entry)) ⌝ }
+{
+    let x = text::read_ranged(s, low, high);
+    ReadOperand {
         refusal: x.refusal,
         number: x.number,
         value: Value::ZERO,
@@ -240,52 +254,29 @@ fn read_operand(s: &[u8], kind: u8, count: u8, len: u8) -> Operand
 }
 
 // A clause's kind: a word, or one exact value.
-fn clause_kind(s: &[u8]) -> Operand
+fn clause_kind(s: &[u8]) -> ReadOperand
     ensures { λ r. ⌜ r ≡ clauseKind (now (s .entry)) ⌝ }
 {
     let k = text::word_index(b"any,int,atom,pid,note", s);
-    if k < 5 {
-        return Operand {
+    if k < (LAST_KIND as usize) {
+        return ReadOperand {
             refusal: 0,
-            number: k as u8,
+            number: (k as u8) + ANY,
             value: Value::ZERO,
         };
     }
     exact_value(text::read_value(s))
 }
 
-fn exact_value(x: Parsed) -> Operand
+fn exact_value(x: Parsed) -> ReadOperand
     ensures { λ r. ⌜ r ≡ exact x ⌝ }
 {
     let value = x.value;
-    Operand {
+    ReadOperand {
         refusal: x.refusal,
         number: EXACT,
         value,
     }
-}
-
-// The range of a number, by the operand's kind.
-fn low_of(kind: u8) -> u8
-    ensures { λ r. ⌜ r ≡ getD lowest kind 0 ⌝ }
-{
-    if kind < 9 {
-        let low = [0u8, 0, 0, 0, 0, 1, 1, 0, 1];
-        let k = kind as usize;
-        return low[k];
-    }
-    0
-}
-
-fn high_of(kind: u8, count: u8, len: u8) -> u8
-    ensures { λ r. ⌜ r ≡ getD (highest count len) kind 0 ⌝ }
-{
-    if kind < 9 {
-        let high = [0u8, 3, 3, 0, len, count, 16, 1, 8];
-        let k = kind as usize;
-        return high[k];
-    }
-    0
 }
 
 // What follows `start=`: a process and a behaviour.

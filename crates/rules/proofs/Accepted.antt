@@ -4,7 +4,7 @@ use mathlib.Core.Path.{_≡_, refl, _∙_, ap}
 use Prim.Native.Nat.{ℕ}
 use native.Mathlib.Omega.{arith}
 use Rattle.node.specs.declared.Node.{Node}
-use Rattle.rules.specs.Answers.{Answer, refused, done, need, goOn}
+use Rattle.rules.specs.Answers.{Answer, refused, done, need, goOn, badNumber, ownerUnborn, noneInFlight, pairFull, notUnborn, notSound}
 use Rattle.rules.specs.Effects.{Effect}
 use Rattle.rules.specs.Nodes.{sound, Sound}
 use Rattle.rules.specs.Steps.{Action, owner, numbered, ownerBorn, signalWaits, pairHasRoom, numberFree, decide, commit, ready, rule, step}
@@ -36,11 +36,11 @@ module _ (n : Node) (a : Action) where
   pub act-of : (e : Effect) → ready n a ≡ done e → Act n a e
   unfolding ready
   act-of e h =
-      let b = need-done (numbered a) 20 _ h in
-      let c = need-done (ownerBorn n a) 21 _ (b .1) in
-      let d = need-done (signalWaits n a) 23 _ (c .1) in
+      let b = need-done (numbered a) badNumber _ h in
+      let c = need-done (ownerBorn n a) ownerUnborn _ (b .1) in
+      let d = need-done (signalWaits n a) noneInFlight _ (c .1) in
       let f = goOn-done (decide n a) _ (d .1) in
-      let g = need-done (pairHasRoom n (owner a) (f .0 .sent)) 26 _ (f .2) in
+      let g = need-done (pairHasRoom n (owner a) (f .0 .sent)) pairFull _ (f .2) in
       let q : f .0 ≡ e = cc (g .1) in
       record { numbers = b .0; awake = c .0; waits = d .0; decided = f .1 ∙ ap done q; room = rw q at (g .0) }
 
@@ -52,7 +52,7 @@ module _ (n : Node) (a : Action) where
   unfolding rule
   rule-goes m h =
       let b = goOn-done (ready n a) _ h in
-      let c = need-done (numberFree n (b .0 .born)) 27 _ (b .2) in
+      let c = need-done (numberFree n (b .0 .born)) notUnborn _ (b .2) in
       record { effect = b .0; act = act-of (b .0) (b .1); free = c .0; to = cc (c .1) }
 
   pub goes-rule : (e : Effect) → Act n a e → So (numberFree n (e .born)) → rule n a ≡ done (commit n a e)
@@ -66,4 +66,4 @@ module _ (n : Node) (a : Action) where
 
   pub step-goes : (m : Node) → step n a ≡ done m → Sound n × Goes n m a
   unfolding step
-  step-goes m h = let b = need-done (sound n) 31 (rule n a) h in (b .0, rule-goes m (b .1))
+  step-goes m h = let b = need-done (sound n) notSound (rule n a) h in (b .0, rule-goes m (b .1))

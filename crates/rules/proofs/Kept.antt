@@ -23,7 +23,7 @@ use Rattle.node.specs.Nodes.{noProcess, noMailbox, noRow, pair}
 use Rattle.node.specs.Rows.{noSignal, signals, pushed, popped}
 use Rattle.node.proofs.Contents.{signals-length}
 use Rattle.node.proofs.Lists.{map-rising-at, map-rising-length}
-use Rattle.rules.specs.Answers.{Answer, refused, done}
+use Rattle.rules.specs.Answers.{Answer, refused, done, scheduleTooLong}
 use Rattle.rules.specs.Behaviours.{Instruction, instruction, codeSound}
 use Rattle.rules.specs.Effects.{Effect, Sending, Birth}
 use Rattle.rules.specs.Nodes.{Sound, sound, shaped, viewSound, view, behavioursOf, code, process, mailbox, row, standing, standingSound, signalSound, rowSound}
@@ -306,7 +306,7 @@ pub play-sound : (n : Node) (l : List Action) → Sound n → Sound (play n l .n
 unfolding play
 play-sound n l h = rw h (go (ltb 4096 (length l)))
   where
-    go : (b : Bool) → Sound (cond b (record { accepted = 0; refusal = 32; node = n }) (played n l) .node)
+    go : (b : Bool) → Sound (cond b (record { accepted = 0; refusal = scheduleTooLong; node = n }) (played n l) .node)
     go true = h
     go false = played-sound n l h
 

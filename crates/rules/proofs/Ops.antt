@@ -19,6 +19,7 @@ use Rattle.node.specs.declared.Mailbox.{Mailbox}
 use Rattle.node.specs.declared.Message.{Message}
 use Rattle.node.specs.declared.Message.the-variants.{Plain, Note}
 use Rattle.node.specs.declared.Op.{Op}
+use Rattle.node.specs.declared.OperandKind.the-variants.{NoOperand, PlaceT}
 use Rattle.node.specs.declared.Process.{Process}
 use Rattle.node.specs.declared.Signal.{Signal}
 use Rattle.node.specs.declared.Signal.the-variants.{Msg, Exit, Link, Unlink}
@@ -27,21 +28,21 @@ use Rattle.node.specs.declared.Value.the-variants.{Int, Pid}
 use Rattle.node.specs.Lists.{allOf}
 use Rattle.node.specs.Mailboxes.{noMessage, messages, without, sixteenSlots}
 use Rattle.node.specs.Nodes.{noOp}
-use Rattle.node.specs.Ops.{kindsOf}
+use Rattle.node.specs.Ops.{kindsOf, opCount, recvOp, clauseOp}
 use Rattle.node.specs.Processes.{register, withRegister, withRegisters, moved, advanced, trapped, linked, unlinked, ended}
 use Rattle.node.specs.Values.{badarg, badarith, pid, isNumber, valueSound, messageSound, sameValue}
 use Rattle.node.proofs.Lists.{leave-length}
-use Rattle.rules.specs.Answers.{Answer}
+use Rattle.rules.specs.Answers.{Answer, noFit}
 use Rattle.rules.specs.Behaviours.{Instruction, instruction, numeric, operand, operandInRange, onClause, isRecv, isClause, clauseCount, noInstruction, hasClauses, codeSound}
 use Rattle.rules.specs.Effects.{State, Effect, becomes, ends}
 use Rattle.rules.specs.Nodes.{signalSound, sound}
 use Rattle.rules.specs.Receive.{Fit, fits, firstClause, search, withMessage, receivesFit, receives}
-use Rattle.rules.specs.Run.{setsRegister, jumpsIf, sendsTo, toOther, spawns, opTable, runsOp}
+use Rattle.rules.specs.Run.{setsRegister, jumpsIf, sendsTo, toOther, spawns, stops, opTable, runsOp}
 use Rattle.rules.proofs.All.{parts, allOf-at, Each, last, _then_, each-at}
 use Rattle.rules.proofs.Cases.{jumps-any, adds-any, compares-any, sendsTo-any, toOther-any, receives-any}
 use Rattle.rules.proofs.Keeps.{Fills, Good, becomes-alive, sends-alive, ends-good}
 use Rattle.rules.proofs.Living.{codeOf, Valued, Mailed, Alive, alive, alive-sound, live-born, without-mailed, register-sound, withRegister-keeps, moved-alive, registers-alive, trapped-alive, linked-alive, unlinked-alive, mailed-alive}
-use Rattle.rules.proofs.Places.{code-short, next-off, op-at, facts, in-range, target-11, target-12, target-13, target-14, fresh-sound}
+use Rattle.rules.proofs.Places.{code-short, next-off, op-at, facts, in-range, target-at, fresh-sound}
 use Rattle.rules.proofs.Told.{Told}
 
 -- ---- receiving
@@ -108,14 +109,14 @@ module _ (codes : List (List Instruction)) (i : ℕ) (ops : List Op) (st : State
   not-clause = not-true _ (rw (g .same, there) at (g .alive .placed .off))
 
   -- operand j of the op, by its kind
-  operand-good : (n j : ℕ) → o .number ≡ n → j < length (kindsOf n) → So (operandInRange (length codes) (length whole) (getD (kindsOf n) j 0) (operand o (getD (kindsOf n) j 0)))
+  operand-good : (n j : ℕ) → o .number ≡ n → j < length (kindsOf n) → So (operandInRange (length codes) (length whole) (getD (kindsOf n) j NoOperand) (operand o (getD (kindsOf n) j NoOperand)))
   operand-good = in-range (length codes) ops checked t (g .inside) o (g .here)
 
   register-good : (k : ℕ) → So (valueSound (register p k))
   register-good k = register-sound p (g .alive .valued) k
 
   -- an op whose number is not recv's
-  other-op : (k : ℕ) → o .number ≡ k → eqb k 10 ≡ false → isRecv (instruction o) ≡ false
+  other-op : (k : ℕ) → o .number ≡ k → eqb k recvOp ≡ false → isRecv (instruction o) ≡ false
   unfolding instruction
   other-op k e h = rw e h
 
@@ -148,16 +149,16 @@ module _ (codes : List (List Instruction)) (i : ℕ) (ops : List Op) (st : State
   moved-good k h f = moved-alive codes i p (st .mail) (g .alive) k (rw (g .same) h) (rw (g .same) f)
 
   -- "The next n ops are its clauses"
-  clauses-follow : o .number ≡ 10 → So (allOf isClause (take (o .small) (drop (t + 1) whole)))
+  clauses-follow : o .number ≡ recvOp → So (allOf isClause (take (o .small) (drop (t + 1) whole)))
   unfolding hasClauses instruction kindsOf operand
   clauses-follow e =
       let w : So (not (isRecv (instruction o)) || hasClauses (clauseCount (instruction o)) (drop (t + 1) whole)) = facts (length codes) ops checked t (g .inside) o (g .here) .1 .recv in
       let u : So (hasClauses (o .small) (drop (t + 1) whole)) =
-      subst (λ (k : ℕ). So (not (eqb k 10) || hasClauses (getD (map (operand o) (kindsOf k)) 0 (numeric 0) .number) (drop (t + 1) whole))) e w in
+      subst (λ (k : ℕ). So (not (eqb k recvOp) || hasClauses (getD (map (operand o) (kindsOf k)) 0 (numeric 0) .number) (drop (t + 1) whole))) e w in
       parts (leb (o .small) (length (drop (t + 1) whole))) _ u .1
 
-  clause-target : o .number ≡ 10 → (j : ℕ) → j < length (take (o .small) (drop (t + 1) ops)) → OnTarget (getD (take (o .small) (drop (t + 1) ops)) j noOp)
-  unfolding instruction
+  clause-target : o .number ≡ recvOp → (j : ℕ) → j < length (take (o .small) (drop (t + 1) ops)) → OnTarget (getD (take (o .small) (drop (t + 1) ops)) j noOp)
+  unfolding instruction kindsOf
   clause-target e j h =
       let n = o .small in
       let b : j < min n (length ops - (t + 1)) = simp (length-take, length-drop) at h in
@@ -168,7 +169,7 @@ module _ (codes : List (List Instruction)) (i : ℕ) (ops : List Op) (st : State
       getD-take n (drop (t + 1) whole) j noInstruction (omega arith) ∙ getD-drop (t + 1) whole j noInstruction ∙ op-at (length codes) ops checked k c (getD ops k noOp) refl in
       let l : j < length (take n (drop (t + 1) whole)) = simp (length-take, length-drop, length-map) (omega arith) in
       let x : So (isClause (instruction (getD ops k noOp))) = rw d at (allOf-at isClause noInstruction (take n (drop (t + 1) whole)) (clauses-follow e) j l) in
-      rw f (target-11 (length codes) ops checked k c (getD ops k noOp) refl (eqb-true (getD ops k noOp .number) 11 x))
+      rw f (target-at (length codes) ops checked k c (getD ops k noOp) refl clauseOp 3 (eqb-true (getD ops k noOp .number) clauseOp x) (omega arith) refl)
 
   module _ (m : Mailbox) (mail : Mailed m) (k : ℕ) (within : So (leb k (length whole))) (off : So (not (onClause whole k))) where
     moved-with : (b c d e : Value) → Valued b c d e → Alive codes i (moved (withRegisters p b c d e) k) m
@@ -184,7 +185,7 @@ module _ (codes : List (List Instruction)) (i : ℕ) (ops : List Op) (st : State
         (λ b d e f u. withRegister-keeps (withRegisters p b d e f) u (λ q. Alive codes i (moved q k) m) moved-with (c .s) v (w .1))
         (c .r) (Pid j) (w .0)
 
-  fit-good : o .number ≡ 10 → (f : Fit) → search (take (o .small) (drop (t + 1) ops)) 0 (messages (st .mail)) ≡ some f → Good codes i (receivesFit st (some f))
+  fit-good : o .number ≡ recvOp → (f : Fit) → search (take (o .small) (drop (t + 1) ops)) 0 (messages (st .mail)) ≡ some f → Good codes i (receivesFit st (some f))
   fit-good e f q =
       let h : FitOk OnTarget (some f) = subst (FitOk OnTarget) q (search-fit OnTarget (take (o .small) (drop (t + 1) ops)) (clause-target e) 0 (messages (st .mail)) (g .alive .mailed .sound)) in
       let m = without (st .mail) (f .index) in
@@ -211,7 +212,7 @@ module _ (codes : List (List Instruction)) (i : ℕ) (ops : List Op) (st : State
 
 -- an op with number k is refused with 25 only, and only if it is a recv
 abbrev pub At : ℕ → ℕ → Type 0
-At k m = (m ≡ 25) × (k ≡ 10)
+At k m = (m ≡ noFit) × (k ≡ recvOp)
 
 module _ (code : List Op) (i : ℕ) (st : State) (o : Op) where
   pub record Shown (k : ℕ) (x : Answer Effect) : Type 0 where
@@ -227,7 +228,7 @@ module _ (code : List Op) (i : ℕ) (st : State) (o : Op) where
   unfolding ended
   ends-shown k v h = record { told = tt; full = λ s. s; good = λ codes g e. ends-good codes i st v (h codes g e) (g .alive .apart) }
 
-  stays-shown : (k : ℕ) → eqb k 10 ≡ false → Shown k (becomes st (advanced (st .process)))
+  stays-shown : (k : ℕ) → eqb k recvOp ≡ false → Shown k (becomes st (advanced (st .process)))
   unfolding advanced
   stays-shown k h = record {
     told = tt;
@@ -235,7 +236,7 @@ module _ (code : List Op) (i : ℕ) (st : State) (o : Op) where
     good = λ codes g e. becomes-alive codes i st _ (advanced-alive codes i code st o g (other-op codes i code st o g k e h) (st .process) (g .alive) refl refl);
   }
 
-  sets-shown : (k : ℕ) → eqb k 10 ≡ false → (r : ℕ) (v : Value) → If k (λ c. So (valueSound v)) → Shown k (setsRegister st r v)
+  sets-shown : (k : ℕ) → eqb k recvOp ≡ false → (r : ℕ) (v : Value) → If k (λ c. So (valueSound v)) → Shown k (setsRegister st r v)
   unfolding advanced
   sets-shown k h r v f = record {
     told = tt;
@@ -265,7 +266,7 @@ module _ (code : List Op) (i : ℕ) (st : State) (o : Op) where
     good = λ codes g e. let w = h codes g e in becomes-alive codes i st _ (moved-good codes i code st o g (o .target) (w .0) (w .1));
   }
 
-  jumps-shown : (k : ℕ) → eqb k 10 ≡ false → If k Lands → (b : Bool) → Shown k (jumpsIf st b (o .target))
+  jumps-shown : (k : ℕ) → eqb k recvOp ≡ false → If k Lands → (b : Bool) → Shown k (jumpsIf st b (o .target))
   jumps-shown k h l b = jumps-any st (Shown k) (o .target) (moves-shown k l) (stays-shown k h) b
 
   -- the process as q: its links may differ, its behaviour and place do not
@@ -286,7 +287,7 @@ module _ (code : List Op) (i : ℕ) (st : State) (o : Op) where
   pid-sound k j q codes g e = subst (λ (v : Value). So (valueSound v)) q (value-sound k (o .r) codes g e)
 
   -- a signal to the process j that r names, from the process as q j, whose place rises
-  sends-shown : (k : ℕ) → eqb k 10 ≡ false → (q : ℕ → Process) (x : Signal) → ((j : ℕ) → r ≡ pid j → If k (λ c. So (signalSound i j x) × Kin (q j) c)) → Shown k (sendsTo st r q x)
+  sends-shown : (k : ℕ) → eqb k recvOp ≡ false → (q : ℕ → Process) (x : Signal) → ((j : ℕ) → r ≡ pid j → If k (λ c. So (signalSound i j x) × Kin (q j) c)) → Shown k (sendsTo st r q x)
   unfolding advanced
   sends-shown k h q x f =
       sendsTo-any st (Shown k) r q x
@@ -300,11 +301,11 @@ module _ (code : List Op) (i : ℕ) (st : State) (o : Op) where
       })
       (ends-shown k badarg (λ c g e. refl))
 
-  send-shown : (k : ℕ) → eqb k 10 ≡ false → (x : Signal) → ((j : ℕ) → If k (λ c. So (signalSound i j x))) → Shown k (sendsTo st r (λ j. st .process) x)
+  send-shown : (k : ℕ) → eqb k recvOp ≡ false → (x : Signal) → ((j : ℕ) → If k (λ c. So (signalSound i j x))) → Shown k (sendsTo st r (λ j. st .process) x)
   send-shown k h x f = sends-shown k h (λ j. st .process) x (λ j n c g e. (f j c g e, (g .alive, refl, refl)))
 
   -- link and unlink go to another process
-  others-shown : (k : ℕ) → eqb k 10 ≡ false → (q : ℕ → Process) (x : Signal) → ((j : ℕ) → So (not (eqb i j)) → So (signalSound i j x)) →
+  others-shown : (k : ℕ) → eqb k recvOp ≡ false → (q : ℕ → Process) (x : Signal) → ((j : ℕ) → So (not (eqb i j)) → So (signalSound i j x)) →
       ((j : ℕ) → eqb j i ≡ false → So (isNumber j) → If k (Kin (q j))) → Shown k (toOther i st r (sendsTo st r q x))
   unfolding sameValue
   others-shown k h q x signal alive =
@@ -328,21 +329,24 @@ module _ (code : List Op) (i : ℕ) (st : State) (o : Op) where
     good = λ codes g e. spawn-good codes i code st o g e;
   }
 
-  receives-shown : Shown 10 (receives code st o)
+  receives-shown : Shown recvOp (receives code st o)
   unfolding moved without
   receives-shown = record {
-    told = receives-any st (Told (At 10)) code o (refl, refl) (λ f q. tt);
+    told = receives-any st (Told (At recvOp)) code o (refl, refl) (λ f q. tt);
     full = λ s. receives-any st Fills code o tt (λ f q. rw (leave-length noMessage (f .index) (st .mail .slots)) s);
     good = λ codes g e. receives-any st (Good codes i) code o tt (fit-good codes i code st o g e);
   }
 
-  -- where the op has a target, it is within the code and on no clause
-  lands : (k : ℕ) → ((c : ℕ) (checked : So (codeSound c (map instruction code))) (inside : st .process .place < length code) →
-      getD code (st .process .place) noOp ≡ o → o .number ≡ k → So (leb (o .target) (length (map instruction code))) × So (not (onClause (map instruction code) (o .target)))) → If k Lands
-  lands k h c g e = h (length c) (checked c i code st o g) (g .inside) (g .here) e
+  -- where operand j of the op is a place, it is within the code and on no clause
+  lands : (k j : ℕ) → j < length (kindsOf k) → getD (kindsOf k) j NoOperand ≡ PlaceT → If k Lands
+  lands k j h p c g e = target-at (length c) code (checked c i code st o g) (st .process .place) (g .inside) o (g .here) k j e h p
 
-  abbrev place : ℕ
-  place = st .process .place
+  stops-shown : (k : ℕ) → Shown k (stops st o)
+  stops-shown k = ends-shown k r (value-sound k (o .r))
+
+  -- the table of what ops do has a row to an op of node's table
+  rows-all : length (opTable code i st o) ≡ opCount
+  rows-all = refl
 
   -- a row to an op
   rows : Each Shown 0 (opTable code i st o)
@@ -359,12 +363,13 @@ module _ (code : List Op) (i : ℕ) (st : State) (o : Op) where
       then traps-shown (eqb (o .small) 1)
       then spawns-shown
       then receives-shown
-      then stays-shown 11 refl
-      then moves-shown 12 (lands 12 (λ c s h q. target-12 c code s place h o q))
-      then jumps-shown 13 refl (lands 13 (λ c s h q. target-13 c code s place h o q)) (sameValue r (o .value))
-      then compares-any st (Shown 14) (o .target) (jumps-shown 14 refl (lands 14 (λ c s h q. target-14 c code s place h o q))) (ends-shown 14 badarg (λ c g e. refl)) r s
+      then stays-shown clauseOp refl
+      then moves-shown 12 (lands 12 0 (omega arith) refl)
+      then jumps-shown 13 refl (lands 13 2 (omega arith) refl) (sameValue r (o .value))
+      then compares-any st (Shown 14) (o .target) (jumps-shown 14 refl (lands 14 2 (omega arith) refl)) (ends-shown 14 badarg (λ c g e. refl)) r s
+      then stops-shown 15
       then last
 
   pub op-shown : Shown (o .number) (runsOp code i st o)
   unfolding runsOp
-  op-shown = rw zero-add at (each-at Shown 0 (opTable code i st o) (ends st r) rows (λ j. ends-shown j r (value-sound j (o .r))) (o .number))
+  op-shown = rw zero-add at (each-at Shown 0 (opTable code i st o) (stops st o) rows stops-shown (o .number))

@@ -18,7 +18,7 @@ use Rattle.node.specs.declared.Stage.the-variants.{Unborn, Live, Closing, Gone}
 use Rattle.node.specs.Nodes.{noProcess}
 use Rattle.node.specs.Processes.{gone, unlinked}
 use Rattle.node.specs.Sets.{lowestPeer}
-use Rattle.rules.specs.Answers.{Answer, refused, done}
+use Rattle.rules.specs.Answers.{Answer, refused, done, notSound, scheduleTooLong}
 use Rattle.rules.specs.Calls.{Call, single, schedule, nodeBehind, ifAccepted, callNode, callSteps, after, accepted, acceptedBy}
 use Rattle.rules.specs.Effects.{Effect, Sending, Birth, State}
 use Rattle.rules.specs.Guarantees.{Order, SoundKept, Stopped, PlayIsSteps, undecided, full, taken, Exclusive, rank, Forward}
@@ -98,7 +98,7 @@ play-runs : (n : Node) (l : List Action) → Runs step n (take (play n l .accept
 unfolding play
 play-runs n l = go (not (sound n)) (ltb 4096 (length l))
   where
-    go : (x y : Bool) → Runs step n (take (cond x (record { accepted = 0; refusal = 31; node = n }) (cond y (record { accepted = 0; refusal = 32; node = n }) (played n l)) .accepted) l) (cond x (record { accepted = 0; refusal = 31; node = n }) (cond y (record { accepted = 0; refusal = 32; node = n }) (played n l)) .node)
+    go : (x y : Bool) → Runs step n (take (cond x (record { accepted = 0; refusal = notSound; node = n }) (cond y (record { accepted = 0; refusal = scheduleTooLong; node = n }) (played n l)) .accepted) l) (cond x (record { accepted = 0; refusal = notSound; node = n }) (cond y (record { accepted = 0; refusal = scheduleTooLong; node = n }) (played n l)) .node)
     go true y = refl
     go false true = refl
     go false false = played-runs n l

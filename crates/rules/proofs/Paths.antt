@@ -18,9 +18,10 @@ use Rattle.node.specs.declared.Signal.{Signal}
 use Rattle.node.specs.declared.Stage.the-variants.{Live}
 use Rattle.node.specs.Mailboxes.{emptied}
 use Rattle.node.specs.Nodes.{noOp, noMailbox, pair}
+use Rattle.node.specs.Ops.{recvOp}
 use Rattle.node.specs.Rows.{pushed, popped}
 use Rattle.node.proofs.Lists.{firsts-length, firsts-getD}
-use Rattle.rules.specs.Answers.{refused, done}
+use Rattle.rules.specs.Answers.{refused, done, badNumber, ownerUnborn, noneInFlight, pairFull, notUnborn}
 use Rattle.rules.specs.Effects.{Effect}
 use Rattle.rules.specs.Nodes.{behavioursOf, code, process, mailbox, row}
 use Rattle.rules.specs.Steps.{Action, run, arrive, owner, at, commit, numbered, ownerBorn, signalWaits, pairHasRoom, numberFree, decide, ready, rule}
@@ -33,17 +34,17 @@ use Rattle.rules.proofs.Kept.{Parts, code-of}
 -- ---- refusals
 
 module _ (n : Node) (a : Action) where
-  pub rule-20 : numbered a ≡ false → rule n a ≡ refused 20
+  pub rule-20 : numbered a ≡ false → rule n a ≡ refused badNumber
   unfolding rule ready
   rule-20 h = rw h
 
   module _ (numbers : So (numbered a)) where
-    pub rule-21 : ownerBorn n a ≡ false → rule n a ≡ refused 21
+    pub rule-21 : ownerBorn n a ≡ false → rule n a ≡ refused ownerUnborn
     unfolding rule ready
     rule-21 h = rw (numbers, h)
 
     module _ (awake : So (ownerBorn n a)) where
-      pub rule-23 : signalWaits n a ≡ false → rule n a ≡ refused 23
+      pub rule-23 : signalWaits n a ≡ false → rule n a ≡ refused noneInFlight
       unfolding rule ready
       rule-23 h = rw (numbers, awake, h)
 
@@ -53,11 +54,11 @@ module _ (n : Node) (a : Action) where
         unfolding rule ready
         rule-undecided k h = rw (numbers, awake, waits, h)
 
-        pub rule-26 : (e : Effect) → decide n a ≡ done e → pairHasRoom n (owner a) (e .sent) ≡ false → rule n a ≡ refused 26
+        pub rule-26 : (e : Effect) → decide n a ≡ done e → pairHasRoom n (owner a) (e .sent) ≡ false → rule n a ≡ refused pairFull
         unfolding rule ready
         rule-26 e h f = rw (numbers, awake, waits, h, f)
 
-        pub rule-27 : (e : Effect) → decide n a ≡ done e → So (pairHasRoom n (owner a) (e .sent)) → numberFree n (e .born) ≡ false → rule n a ≡ refused 27
+        pub rule-27 : (e : Effect) → decide n a ≡ done e → So (pairHasRoom n (owner a) (e .sent)) → numberFree n (e .born) ≡ false → rule n a ≡ refused notUnborn
         unfolding rule ready
         rule-27 e h r f = rw (numbers, awake, waits, h, r, f)
 
@@ -131,5 +132,5 @@ module _ (n : Node) (p : Parts n) (i : ℕ) (number : So (isNumber i)) (live : p
   code-at t h = firsts-getD noOp (getD (n .lens) (b - 1) 0) (drop (32 * (b - 1)) (n .ops)) t (rw code-length at h) ∙ getD-drop (32 * (b - 1)) (n .ops) t noOp
 
   -- where it is at a recv, at most 8 clauses follow
-  pub recv-bounds : process n i .place < length (code n b) → getD (code n b) (process n i .place) noOp .number ≡ 10 → (getD (code n b) (process n i .place) noOp .small ≤ 8) × (process n i .place + 1 + getD (code n b) (process n i .place) noOp .small ≤ length (code n b))
+  pub recv-bounds : process n i .place < length (code n b) → getD (code n b) (process n i .place) noOp .number ≡ recvOp → (getD (code n b) (process n i .place) noOp .small ≤ 8) × (process n i .place + 1 + getD (code n b) (process n i .place) noOp .small ≤ length (code n b))
   recv-bounds h e = recv-clauses (length (behavioursOf n)) (code n b) (code-passes (behavioursOf n) b (code n b) within (code-of n b within) (p .codes)) (process n i .place) h e

@@ -11,11 +11,12 @@ use lib.Seq.{take-suc}
 use Rattle.node.specs.declared.BehaviourNumber.{BehaviourNumber}
 use Rattle.node.specs.declared.Mailbox.{Mailbox}
 use Rattle.node.specs.declared.Op.{Op}
+use Rattle.node.specs.declared.OperandKind.the-variants.{NoOperand, PlaceT}
 use Rattle.node.specs.declared.Value.{Value}
 use Rattle.node.specs.Lists.{allFrom, allOf, allTwo}
 use Rattle.node.specs.Mailboxes.{emptied}
 use Rattle.node.specs.Nodes.{noOp}
-use Rattle.node.specs.Ops.{kindsOf}
+use Rattle.node.specs.Ops.{kindsOf, opCount, recvOp}
 use Rattle.node.specs.Processes.{fresh}
 use Rattle.node.proofs.Lists.{allFrom-at}
 use Rattle.rules.specs.Behaviours.{Instruction, instruction, numeric, operand, operandInRange, inRange, onClause, isRecv, isClause, clauseCount, noInstruction, hasClauses, dueNext, due, targetFree, targetsFree, wellPlaced, codeSound}
@@ -94,37 +95,25 @@ module _ (c : ℕ) (ops : List Op) (checked : So (codeSound c (map instruction o
   facts = rw op-at at (op-sound c code checked k (rw (length-map ops instruction) inside))
 
   -- operand j of an op with a known number is in range
-  pub in-range : (n j : ℕ) → o .number ≡ n → j < length (kindsOf n) → So (operandInRange c (length code) (getD (kindsOf n) j 0) (operand o (getD (kindsOf n) j 0)))
+  pub in-range : (n j : ℕ) → o .number ≡ n → j < length (kindsOf n) → So (operandInRange c (length code) (getD (kindsOf n) j NoOperand) (operand o (getD (kindsOf n) j NoOperand)))
   unfolding inRange instruction
   in-range n j e h =
-      let w : So (allTwo (operandInRange c (length code)) (kindsOf (o .number)) (map (operand o) (kindsOf (o .number)))) = parts (ltb (o .number) 16) _ (facts .0) .1 in
-      allTwo-at (operandInRange c (length code)) (operand o) 0 (kindsOf n) (subst (λ (x : ℕ). So (allTwo (operandInRange c (length code)) (kindsOf x) (map (operand o) (kindsOf x)))) e w) j h
+      let w : So (allTwo (operandInRange c (length code)) (kindsOf (o .number)) (map (operand o) (kindsOf (o .number)))) = parts (ltb (o .number) opCount) _ (facts .0) .1 in
+      allTwo-at (operandInRange c (length code)) (operand o) NoOperand (kindsOf n) (subst (λ (x : ℕ). So (allTwo (operandInRange c (length code)) (kindsOf x) (map (operand o) (kindsOf x)))) e w) j h
 
   -- and where it is a target, it is on no clause
-  target-off : (n j : ℕ) → o .number ≡ n → j < length (kindsOf n) → So (targetFree code (getD (kindsOf n) j 0) (operand o (getD (kindsOf n) j 0)))
+  target-off : (n j : ℕ) → o .number ≡ n → j < length (kindsOf n) → So (targetFree code (getD (kindsOf n) j NoOperand) (operand o (getD (kindsOf n) j NoOperand)))
   unfolding targetsFree instruction
   target-off n j e h =
       let w : So (allTwo (targetFree code) (kindsOf (o .number)) (map (operand o) (kindsOf (o .number)))) = facts .1 .targets in
-      allTwo-at (targetFree code) (operand o) 0 (kindsOf n) (subst (λ (x : ℕ). So (allTwo (targetFree code) (kindsOf x) (map (operand o) (kindsOf x)))) e w) j h
+      allTwo-at (targetFree code) (operand o) NoOperand (kindsOf n) (subst (λ (x : ℕ). So (allTwo (targetFree code) (kindsOf x) (map (operand o) (kindsOf x)))) e w) j h
 
   abbrev pub Target : Type 0
   Target = So (leb (o .target) (length code)) × So (not (onClause code (o .target)))
 
-  pub target-11 : o .number ≡ 11 → Target
-  unfolding kindsOf operand operandInRange
-  target-11 e = (in-range 11 3 e (omega arith), target-off 11 3 e (omega arith))
-
-  pub target-12 : o .number ≡ 12 → Target
-  unfolding kindsOf operand operandInRange
-  target-12 e = (in-range 12 0 e (omega arith), target-off 12 0 e (omega arith))
-
-  pub target-13 : o .number ≡ 13 → Target
-  unfolding kindsOf operand operandInRange
-  target-13 e = (in-range 13 2 e (omega arith), target-off 13 2 e (omega arith))
-
-  pub target-14 : o .number ≡ 14 → Target
-  unfolding kindsOf operand operandInRange
-  target-14 e = (in-range 14 2 e (omega arith), target-off 14 2 e (omega arith))
+  pub target-at : (n j : ℕ) → o .number ≡ n → j < length (kindsOf n) → getD (kindsOf n) j NoOperand ≡ PlaceT → Target
+  unfolding operand operandInRange
+  target-at n j e h p = (rw p at (in-range n j e h), rw p at (target-off n j e h))
 
 -- the code of a behaviour that the node has passes the plan's rules
 pub code-passes : (codes : List (List Instruction)) (b : ℕ) (ops : List Op) → So (leb 1 b && leb b (length codes)) → codeOf codes b ≡ map instruction ops →
@@ -147,16 +136,16 @@ code-size codes b ops known same sounds =
     rw (length-map ops instruction) at (leb-true (length whole) 32 (parts (leb 1 (length whole)) (leb (length whole) 32) (v .0) .1))
 
 -- a recv has at most 8 clauses, and they stand behind it
-pub recv-clauses : (c : ℕ) (ops : List Op) → So (codeSound c (map instruction ops)) → (t : ℕ) → t < length ops → getD ops t noOp .number ≡ 10 →
+pub recv-clauses : (c : ℕ) (ops : List Op) → So (codeSound c (map instruction ops)) → (t : ℕ) → t < length ops → getD ops t noOp .number ≡ recvOp →
     (getD ops t noOp .small ≤ 8) × (t + 1 + getD ops t noOp .small ≤ length ops)
 unfolding hasClauses instruction kindsOf operand operandInRange
 recv-clauses c ops checked t inside e =
     let o = getD ops t noOp in
     let whole = map instruction ops in
-    let r : So (leb 1 (o .small) && leb (o .small) 8) = in-range c ops checked t inside o refl 10 0 e (omega arith) in
+    let r : So (leb 1 (o .small) && leb (o .small) 8) = in-range c ops checked t inside o refl recvOp 0 e (omega arith) in
     let w : So (not (isRecv (instruction o)) || hasClauses (clauseCount (instruction o)) (drop (t + 1) whole)) = facts c ops checked t inside o refl .1 .recv in
     let u : So (hasClauses (o .small) (drop (t + 1) whole)) =
-    subst (λ (k : ℕ). So (not (eqb k 10) || hasClauses (getD (map (operand o) (kindsOf k)) 0 (numeric 0) .number) (drop (t + 1) whole))) e w in
+    subst (λ (k : ℕ). So (not (eqb k recvOp) || hasClauses (getD (map (operand o) (kindsOf k)) 0 (numeric 0) .number) (drop (t + 1) whole))) e w in
     let v = leb-true (o .small) (length (drop (t + 1) whole)) (parts (leb (o .small) (length (drop (t + 1) whole))) (allOf isClause (take (o .small) (drop (t + 1) whole))) u .0) in
     let l : length (drop (t + 1) whole) ≡ length ops - (t + 1) = simp (length-drop, length-map) in
     (leb-true (o .small) 8 (parts (leb 1 (o .small)) (leb (o .small) 8) r .1), omega arith)

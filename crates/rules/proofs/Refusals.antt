@@ -11,7 +11,7 @@ use borrow.Author.Tests.{ltb-false}
 use lib.Dec.{ltb}
 use lib.ListN.{length, drop}
 use Rattle.node.specs.declared.Node.{Node}
-use Rattle.rules.specs.Answers.{refused}
+use Rattle.rules.specs.Answers.{refused, badNumber, ownerUnborn, noneInFlight, pairFull, notUnborn, notSound, scheduleTooLong}
 use Rattle.rules.specs.Guarantees.{Stopped}
 use Rattle.rules.specs.Nodes.{Sound, sound}
 use Rattle.rules.specs.Steps.{Action, run, arrive, owner, numbered, ownerBorn, signalWaits, pairHasRoom, numberFree, decide, ready, rule, played, play}
@@ -32,12 +32,12 @@ pub rule-told : (n : Node) (a : Action) → Told Ruled (rule n a)
 unfolding rule ready
 rule-told n a =
     goOn-ruled (ready n a) _
-    (need-ruled (numbered a) 20 _ (omega arith, omega arith) (need-ruled (ownerBorn n a) 21 _ (omega arith, omega arith) (need-ruled (signalWaits n a) 23 _ (omega arith, omega arith)
-    (goOn-ruled (decide n a) _ (decide-told n a) (λ e. need-ruled (pairHasRoom n (owner a) (e .sent)) 26 _ (omega arith, omega arith) tt)))))
-    (λ e. need-ruled (numberFree n (e .born)) 27 _ (omega arith, omega arith) tt)
+    (need-ruled (numbered a) badNumber _ (omega arith, omega arith) (need-ruled (ownerBorn n a) ownerUnborn _ (omega arith, omega arith) (need-ruled (signalWaits n a) noneInFlight _ (omega arith, omega arith)
+    (goOn-ruled (decide n a) _ (decide-told n a) (λ e. need-ruled (pairHasRoom n (owner a) (e .sent)) pairFull _ (omega arith, omega arith) tt)))))
+    (λ e. need-ruled (numberFree n (e .born)) notUnborn _ (omega arith, omega arith) tt)
 
 -- a play that stopped at a sound node stopped with a number of the schedule writer, or with none
-stopped-told : (n : Node) (l : List Action) (k : ℕ) → Sound n → Stopped n l k → k ≤ 27
+stopped-told : (n : Node) (l : List Action) (k : ℕ) → Sound n → Stopped n l k → k ≤ notUnborn
 stopped-told n [] k s h = omega (arith, h)
 stopped-told n (a ∷ l) k s h =
     let r : rule n a ≡ refused k = sym (step-rule n a s) ∙ h in
@@ -45,17 +45,17 @@ stopped-told n (a ∷ l) k s h =
     t .1
 
 module _ (n : Node) (l : List Action) where
-  long : ltb 4096 (length l) ≡ true → Sound n → play n l .refusal ≡ 32
+  long : ltb 4096 (length l) ≡ true → Sound n → play n l .refusal ≡ scheduleTooLong
   unfolding play
   long h s = rw (s, h)
 
-  short : ltb 4096 (length l) ≡ false → Sound n → play n l .refusal ≤ 27
+  short : ltb 4096 (length l) ≡ false → Sound n → play n l .refusal ≤ notUnborn
   short h s = stopped-told (play n l .node) (drop (play n l .accepted) l) (play n l .refusal) (sound-kept .1 n l s) (play-is-steps n l s (ltb-false 4096 (length l) h) .2)
 
-  pub refusal-most : Sound n → play n l .refusal ≤ 32
+  pub refusal-most : Sound n → play n l .refusal ≤ scheduleTooLong
   refusal-most s = go (ltb 4096 (length l)) refl
     where
-      go : (b : Bool) → ltb 4096 (length l) ≡ b → play n l .refusal ≤ 32
+      go : (b : Bool) → ltb 4096 (length l) ≡ b → play n l .refusal ≤ scheduleTooLong
       go true h = omega (arith, long h s)
       go false h = omega (arith, short h s)
 
@@ -64,26 +64,26 @@ module _ (n : Node) (l : List Action) where
   accepted-most = go (not (sound n)) (ltb 4096 (length l)) refl
     where
       go : (x y : Bool) → ltb 4096 (length l) ≡ y
-          → cond x (record { accepted = 0; refusal = 31; node = n }) (cond y (record { accepted = 0; refusal = 32; node = n }) (played n l)) .accepted ≤ 4096
+          → cond x (record { accepted = 0; refusal = notSound; node = n }) (cond y (record { accepted = 0; refusal = scheduleTooLong; node = n }) (played n l)) .accepted ≤ 4096
       go true y h = omega arith
       go false true h = omega arith
       go false false h = omega (arith, played-count n l, ltb-false 4096 (length l) h)
 
-  sound-not-31 : Sound n → (play n l .refusal ≡ 31 → ⊥)
+  sound-not-31 : Sound n → (play n l .refusal ≡ notSound → ⊥)
   sound-not-31 s e = go (ltb 4096 (length l)) refl
     where
       go : (b : Bool) → ltb 4096 (length l) ≡ b → ⊥
       go true h = let z = long h s in omega (arith, z, e)
       go false h = let z = short h s in omega (arith, z, e)
 
-  pub told-31 : play n l .refusal ≡ 31 → sound n ≡ false
+  pub told-31 : play n l .refusal ≡ notSound → sound n ≡ false
   told-31 e = go (sound n) refl
     where
       go : (b : Bool) → sound n ≡ b → sound n ≡ false
       go true h = absurd (sound-not-31 h e)
       go false h = h
 
-  pub not-told-31 : (play n l .refusal ≡ 31 → ⊥) → Sound n
+  pub not-told-31 : (play n l .refusal ≡ notSound → ⊥) → Sound n
   unfolding play
   not-told-31 e = go (sound n) refl
     where

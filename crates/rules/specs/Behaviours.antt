@@ -10,12 +10,14 @@ use Prim.Native.Nat.{ℕ, _+_, _-_}
 use lib.Dec.{leb, ltb, eqb}
 use lib.ListN.{length, getD, take, drop}
 use Rattle.node.specs.declared.Op.{Op}
+use Rattle.node.specs.declared.OperandKind.{OperandKind}
+use Rattle.node.specs.declared.OperandKind.the-variants.{NoOperand, RegisterR, RegisterS, ValueV, PlaceT, BehaviourB, ProcessQ, FlagF, CountN, KindK}
 use Rattle.node.specs.declared.Value.{Value}
 use Rattle.node.specs.Lists.{allFrom, allOf, allTwo}
-use Rattle.node.specs.Ops.{kindsOf, opCount, recvOp, clauseOp}
-use Rattle.node.specs.Values.{intZero, isNumber, valueSound, exactKind, noteKind}
+use Rattle.node.specs.Ops.{kindsOf, isKind, opCount, recvOp, clauseOp}
+use Rattle.node.specs.Values.{intZero, isNumber, valueSound, exactKind, lastKind}
 
--- an operand: a number or a value; a clause kind is one of node's `exactKind`, which has one exact value, to `noteKind`
+-- an operand: a number or a value; a clause kind is a number of node's `Values`, with one exact value where it is `exactKind`
 pub record Operand : Type 0 where
   pub number : ℕ
   pub value : Value
@@ -27,43 +29,35 @@ pub record Instruction : Type 0 where
 abbrev pub numeric : ℕ → Operand
 numeric k = record { number = k; value = intZero }
 
--- the operand of each kind (node's `operandKinds`)
-unfoldable pub operand : Op → ℕ → Operand
-operand o kind =
-    getD
-    (numeric 0  -- none
-    ∷ numeric (o .r)  -- register r
-    ∷ numeric (o .s)  -- register s
-    ∷ record { number = 0; value = o .value }  -- value V
-    ∷ numeric (o .target)  -- place t
-    ∷ numeric (o .behaviour .0)  -- behaviour number b
-    ∷ numeric (o .process .0)  -- process number q
-    ∷ numeric (o .small)  -- flag f
-    ∷ numeric (o .small)  -- count n of clauses
-    ∷ record { number = o .small; value = cond (eqb (o .small) exactKind) (o .value) intZero }  -- clause kind k
-    ∷ [])
-    kind (numeric 0)
+-- the field of an op that holds its operand of each kind
+unfoldable pub operand : Op → OperandKind → Operand
+operand o NoOperand = numeric 0
+operand o RegisterR = numeric (o .r)
+operand o RegisterS = numeric (o .s)
+operand o ValueV = record { number = 0; value = o .value }
+operand o PlaceT = numeric (o .target)
+operand o BehaviourB = numeric (o .behaviour .0)
+operand o ProcessQ = numeric (o .process .0)
+operand o FlagF = numeric (o .small)
+operand o CountN = numeric (o .small)
+operand o KindK = record { number = o .small; value = cond (eqb (o .small) exactKind) (o .value) intZero }
 
 unfoldable pub instruction : Op → Instruction
 instruction o = record { number = o .number; operands = map (operand o) (kindsOf (o .number)) }
 
 -- "r, s are registers 0 to 3, V a value, t a place 0 to N, b a behaviour number up to the plan's count, q a process number",
 -- f 0 or 1, n 1 to 8
-unfoldable pub operandInRange : ℕ → ℕ → ℕ → Operand → Bool
-operandInRange c n kind x =
-    getD
-    (true  -- none
-    ∷ leb (x .number) 3  -- register r
-    ∷ leb (x .number) 3  -- register s
-    ∷ valueSound (x .value)  -- value V
-    ∷ leb (x .number) n  -- place t
-    ∷ (leb 1 (x .number) && leb (x .number) c)  -- behaviour number b
-    ∷ isNumber (x .number)  -- process number q
-    ∷ leb (x .number) 1  -- flag f
-    ∷ (leb 1 (x .number) && leb (x .number) 8)  -- count n of clauses
-    ∷ (leb (x .number) noteKind && valueSound (x .value))  -- clause kind k
-    ∷ [])
-    kind true
+unfoldable pub operandInRange : ℕ → ℕ → OperandKind → Operand → Bool
+operandInRange c n NoOperand x = true
+operandInRange c n RegisterR x = leb (x .number) 3
+operandInRange c n RegisterS x = leb (x .number) 3
+operandInRange c n ValueV x = valueSound (x .value)
+operandInRange c n PlaceT x = leb (x .number) n
+operandInRange c n BehaviourB x = leb 1 (x .number) && leb (x .number) c
+operandInRange c n ProcessQ x = isNumber (x .number)
+operandInRange c n FlagF x = leb (x .number) 1
+operandInRange c n CountN x = leb 1 (x .number) && leb (x .number) 8
+operandInRange c n KindK x = leb (x .number) lastKind && valueSound (x .value)
 
 unfoldable pub inRange : ℕ → ℕ → Instruction → Bool
 inRange c n x = ltb (x .number) opCount && allTwo (operandInRange c n) (kindsOf (x .number)) (x .operands)
@@ -96,9 +90,9 @@ abbrev pub due : ℕ → List Instruction → ℕ
 due k [] = k
 due k (x ∷ xs) = due (dueNext k x) xs
 
--- "target place on a clause"; 4 is the operand kind of a place
-abbrev pub targetFree : List Instruction → ℕ → Operand → Bool
-targetFree code kind x = not (eqb kind 4) || not (onClause code (x .number))
+-- "target place on a clause"
+abbrev pub targetFree : List Instruction → OperandKind → Operand → Bool
+targetFree code kind x = not (isKind PlaceT kind) || not (onClause code (x .number))
 
 unfoldable pub targetsFree : List Instruction → Instruction → Bool
 targetsFree code x = allTwo (targetFree code) (kindsOf (x .number)) (x .operands)

@@ -6,7 +6,7 @@
 --   toProcess            what is done with the process that a value names; the process ends where it names none
 --   sendsTo st v q x     x is sent to the process j that v names, by a process that becomes q j
 --   toOther i st v a     answer a, where v is not process i's own number; else nothing but the place changes
---   opTable, runsOp      what process i does at op o of its code, by the op's number
+--   opTable, runsOp      what process i does at op o of its code, by the op's number; a row to an op of node's table
 --   closes st            what a closing process does
 --   runs code i st       what a run of process i does; code is that of its behaviour
 use mathlib.Core.Bool.{Bool, true, false, cond}
@@ -89,7 +89,10 @@ spawns i st o = done (record {
   born = some (record { number = o .process .0; process = fresh (o .behaviour) (pid i) });
 })
 
--- the ops by number, but for the last
+abbrev pub stops : State → Op → Answer Effect
+stops st o = ends st (register (st .process) (o .r))
+
+-- the ops by number
 abbrev pub opTable : List Op → ℕ → State → Op → List (Answer Effect)
 opTable code i st o =
     let p = st .process in
@@ -110,10 +113,12 @@ opTable code i st o =
     ∷ becomes st (moved p (o .target))  -- jump,t
     ∷ jumpsIf st (sameValue r (o .value)) (o .target)  -- same,r,V,t
     ∷ compares st (o .target) r s  -- less,r,s,t
+    ∷ stops st o  -- stop,r
     ∷ []
 
+-- a number past the table, which no op of a sound node has, is read as stop
 unfoldable pub runsOp : List Op → ℕ → State → Op → Answer Effect
-runsOp code i st o = getD (opTable code i st o) (o .number) (ends st (register (st .process) (o .r)))  -- stop,r
+runsOp code i st o = getD (opTable code i st o) (o .number) (stops st o)
 
 -- "sends exit(v,1) to its lowest-numbered link and drops it from the set; with no links it goes gone"
 abbrev pub closesTo : State → ℕ → Answer Effect

@@ -2,6 +2,7 @@
 use Prim.Native.Nat.{_+_, _*_, _-_, _≤_}
 use Rattle.node.specs.Lists.{allOf}
 use Rattle.node.specs.Nodes.{noOp}
+use Rattle.node.specs.Ops.{clauseOp}
 use Rattle.rules.specs.Behaviours.{codeSound}
 use Rattle.behaviours.proofs.Codes.{lands-at, lands-free}
 use Rattle.behaviours.proofs.Pass.{Pass, pass-start, pass-end, size-stop, op-stop, op-barred, op-more, due-stop, next-code}
@@ -105,7 +106,7 @@ returns-4 c =
     let n = getD (a .t2) (l .b) 0 in
     let s = passed (c .before .before .before .before .before .before .before .within2 .ensures) (c .before .before .before .before .before .before .if2 .left) in
     let size = within-is n 1 32 s in
-    let barred = sym (lands-at n (a .t3) (l .b) (getD (a .t3) (32 * l .b + l .t) noOp) (c .before .before .landing .ensures) (c .before .if4 .taken) refl) ∙ ap not (eq-eqb _ 11 (c .if5 .taken)) in
+    let barred = sym (lands-at n (a .t3) (l .b) (getD (a .t3) (32 * l .b + l .t) noOp) (c .before .before .landing .ensures) (c .before .if4 .taken) refl) ∙ ap not (eq-eqb _ clauseOp (c .if5 .taken)) in
     rw w (op-barred (a .count) (a .t2) (a .t3) (l .b) (omega arith) (l .inv .4) (omega arith) barred)
 
 due-next-requires : tie.Need-due-next-requires Inv-loop μ-loop

@@ -3,6 +3,7 @@ use mathlib.Core.Path.{ap, _∙_}
 use borrow.Author.Needs.{needs}
 use borrow.Author.Tests.{lt-ltb, le-ltb}
 use Rattle.plan_line.specs.Ops.{exact, clauseKind}
+use Rattle.plan_line.proofs.Ops.{clause-words}
 use Rattle.plan_line.proofs.clause_kind.Statement.{statement}
 use Rattle.plan_line.proofs.clause_kind.Tie as tie
 
@@ -12,12 +13,18 @@ slice-aggregate-word-index c = search needs
 word-index-requires : tie.Need-word-index-requires
 word-index-requires c κs = search needs
 
-cast-t7 : tie.Need-cast-t7
-cast-t7 c = search needs
+cast-if1 : tie.Need-cast-if1
+cast-if1 c = search needs
+
+cast-t8 : tie.Need-cast-t8
+cast-t8 c = search needs
+
+add-t9 : tie.Need-add-t9
+add-t9 c = search needs
 
 returns : tie.Need-returns
 unfolding clauseKind
-returns c = simp (← c .before .word-index .ensures, lt-ltb _ _ (c .if1 .taken))
+returns c = simp (← clause-words, ← c .before .word-index .ensures, lt-ltb _ _ (c .if1 .taken))
 
 read-value-requires : tie.Need-read-value-requires
 read-value-requires c κs = search needs
@@ -30,7 +37,7 @@ unfolding clauseKind
 returns-2 c =
     let if1 = c .before .before .if1 in
     let word-index = c .before .before .before .word-index in
-    simp (← word-index .ensures, le-ltb _ _ (if1 .left)) (c .exact-value .ensures ∙ ap exact (c .before .read-value .ensures))
+    simp (← clause-words, ← word-index .ensures, le-ltb _ _ (if1 .left)) (c .exact-value .ensures ∙ ap exact (c .before .read-value .ensures))
 
 pub clause-kind-spec : {M : Type 1} → statement M
 clause-kind-spec =
@@ -38,7 +45,9 @@ clause-kind-spec =
     (tie.spec
     slice-aggregate-word-index
     word-index-requires
-    cast-t7
+    cast-if1
+    cast-t8
+    add-t9
     returns
     read-value-requires
     exact-value-requires

@@ -60,14 +60,13 @@ loop-again c =
     let turn = c .before .before .before .before .before .loop in (
       search needs,
       turn .inv .1,
-      operand-more _ _ _ _ _ _ (turn .inv .2) (pre .0) (pre .1) (omega arith) (operand-kind .ensures) (field .ensures) (c .before .read-operand .ensures) (c .with-joined .ensures),
+      operand-more _ _ _ _ _ _ (turn .inv .2) pre (omega arith) (operand-kind .ensures) (field .ensures) (c .before .read-operand .ensures) (c .with-joined .ensures),
     )
 
 returns : tie.Need-returns Inv-loop μ-loop
 returns c =
     let args = c .before .before .before .before .before .args in
-    let pre = c .before .before .before .before .before .pre in
-    operands-end _ _ (args .number) _ (c .before .loop .i) _ (c .before .loop .inv .2) (pre .0) (omega arith)
+    operands-end _ _ (args .number) _ (c .before .loop .i) _ (c .before .loop .inv .2) (omega arith)
 
 pub operands-spec : {M : Type 1} → statement M
 operands-spec =

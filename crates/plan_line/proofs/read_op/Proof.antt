@@ -1,12 +1,7 @@
 -- `read_op` gives the op of a word and its operands. Assumes nothing.
-use mathlib.Core.List.{List}
-use mathlib.Core.Path.{ap, _∙_}
-use Prim.Native.Nat.{ℕ}
 use native.Mathlib.Omega.{arith}
 use borrow.Author.Needs.{needs}
-use Rattle.text.specs.Parts.{fieldsOf, indexOf}
-use Rattle.plan_line.specs.Ops.{opWords}
-use Rattle.plan_line.proofs.Ops.{operand-fields, op-word, op-count, op-right}
+use Rattle.plan_line.proofs.Ops.{operand-fields, word-at, op-word, op-count, op-right}
 use Rattle.plan_line.proofs.read_op.Statement.{statement}
 use Rattle.plan_line.proofs.read_op.Tie as tie
 
@@ -15,6 +10,9 @@ field-requires c κs = search needs
 
 word-index-requires : tie.Need-word-index-requires
 word-index-requires c κs = search needs
+
+cast-if1 : tie.Need-cast-if1
+cast-if1 c = search needs
 
 cast-number : tie.Need-cast-number
 cast-number c = search needs
@@ -32,16 +30,14 @@ add-if2 : tie.Need-add-if2
 add-if2 c = search needs
 
 operands-requires : tie.Need-operands-requires
-operands-requires c κs =
-    let if1 = c .before .before .before .if1 in
-    (if1 .taken, operand-fields _ _ (omega arith))
+operands-requires c κs = operand-fields _ _ (omega arith)
 
 returns : tie.Need-returns
 returns c =
     let field = c .before .before .before .before .before .before .field in
     let if1 = c .before .before .before .before .if1 in
     let word-index = c .before .before .before .before .before .word-index in
-    op-right _ _ _ (word-index .ensures ∙ ap (λ (w : List ℕ). indexOf w (fieldsOf opWords)) (field .ensures)) (if1 .taken) (omega arith) (c .operands .ensures)
+    op-right _ _ _ (word-at (word-index .ensures) (field .ensures)) (if1 .taken) (omega arith) (c .operands .ensures)
 
 no-code-requires : tie.Need-no-code-requires
 no-code-requires c κs = search needs
@@ -51,7 +47,7 @@ returns-2 c =
     let field = c .before .before .before .before .before .before .field in
     let if1 = c .before .before .before .before .if1 in
     let word-index = c .before .before .before .before .before .word-index in
-    op-count _ _ _ (word-index .ensures ∙ ap (λ (w : List ℕ). indexOf w (fieldsOf opWords)) (field .ensures)) (if1 .taken) (λ q. omega (arith, q)) (c .no-code .ensures)
+    op-count _ _ _ (word-at (word-index .ensures) (field .ensures)) (if1 .taken) (λ q. omega (arith, q)) (c .no-code .ensures)
 
 no-code-requires-2 : tie.Need-no-code-requires-2
 no-code-requires-2 c κs = search needs
@@ -60,7 +56,7 @@ returns-3 : tie.Need-returns-3
 returns-3 c =
     let field = c .before .before .before .field in
     let word-index = c .before .before .word-index in
-    op-word _ _ _ (word-index .ensures ∙ ap (λ (w : List ℕ). indexOf w (fieldsOf opWords)) (field .ensures)) (c .before .if1 .left) (c .no-code2 .ensures)
+    op-word _ _ _ (word-at (word-index .ensures) (field .ensures)) (c .before .if1 .left) (c .no-code2 .ensures)
 
 pub read-op-spec : {M : Type 1} → statement M
 read-op-spec =
@@ -68,6 +64,7 @@ read-op-spec =
     (tie.spec
     field-requires
     word-index-requires
+    cast-if1
     cast-number
     count-fields-requires
     operand-count-requires
