@@ -1,3 +1,1 @@
 pub mod Decoding
-pub mod Recv
-pub mod Turns

@@ -36,13 +36,12 @@ use Rattle.rules.proofs.Sample.{opOf, int, sample, started}
 use Rattle.actions.specs.Numbers.{decode, actionOf}
 use Rattle.listing.specs.Listing.{listingOf}
 use Rattle.listing.proofs.Examples.{sample-listing}
-use Rattle.listing_lines.specs.Lines.{numberLine}
 use Rattle.plan.specs.Plans.{nodeOf, loadOf}
 use Rattle.plan.proofs.Examples.{opWith, startWith, samplePlan, sample as loaded-sample}
 use Rattle.schedule.specs.Reading.{packedOf, arrivalOf, stepOf, readLines, firstMalformed, stepsOf, refusedText, acceptedSteps, ofLines, scheduleOf}
 use Rattle.text.specs.Numbers.{isDigit, unsignedForm, negative, unsigned, numberForm, decimal, numberValue, numberOf, rangedOf}
 use Rattle.text.specs.Parts.{split, inFront, lineThen, lastApart, linesOf, fieldsOf, equal, startsWith}
-use Rattle.text.specs.Writing.{digits, digitsIn}
+use Rattle.text.specs.Writing.{digits, digitsIn, numberLine}
 use Rattle.controller.specs.Program.{playedText, steps, afterLoad, programText}
 
 -- ---- a node to check on: processes 1 and 2 are started, the behaviours are those that the checks run

@@ -12,13 +12,12 @@ use lib.ListN.{take}
 use Rattle.node.specs.Texts.{bytes}
 use Rattle.actions.specs.Numbers.{actionOf}
 use Rattle.listing.specs.Listing.{listingOf}
-use Rattle.listing_lines.specs.Lines.{numberLine}
 use Rattle.plan.specs.declared.Loaded.{Loaded}
 use Rattle.plan.specs.Plans.{loadOf}
 use Rattle.rules.specs.Steps.{Action, Played, play}
 use Rattle.schedule.specs.declared.Schedule.{Schedule}
 use Rattle.schedule.specs.Reading.{scheduleOf}
-use Rattle.text.specs.Writing.{digits}
+use Rattle.text.specs.Writing.{digits, numberLine}
 
 abbrev pub loadKey : List ℕ
 loadKey = bytes "load="

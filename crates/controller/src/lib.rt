@@ -1,13 +1,13 @@
 // The controller: a play and its listing in one call, and the program's bytes from a plan text and a steps text.
 use engine::Played;
 use listing::put_listing;
-use listing_lines::put_number_line;
 use node::NOT_SOUND;
 use node::Node;
 use node::OUTPUT_SHORT;
 use text::put_byte;
 use text::put_bytes;
 use text::put_number;
+use text::put_number_line;
 ghost use mathlib.Core.List.{map};
 ghost use mathlib.Core.Path.{_≡_};
 ghost use Rattle.actions.specs.Numbers.{actionOf};

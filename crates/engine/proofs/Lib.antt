@@ -1,2 +1,4 @@
+pub mod Recv
+pub mod Turns
 pub mod Laws
 pub mod Calls

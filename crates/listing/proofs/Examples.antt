@@ -23,8 +23,8 @@ use Rattle.rules.specs.Receive.{receives, fits}
 use Rattle.rules.specs.Run.{runs, runsLive, runsOp}
 use Rattle.rules.specs.Steps.{run, arrive, play, played, step, rule, ready, commit, incoming, decide, at, numbered, ownerBorn, signalWaits, pairHasRoom, numberFree}
 use Rattle.text.specs.Values.{numberText, valueText}
-use Rattle.text.specs.Writing.{digitsIn, digits, intText, each}
-use Rattle.listing_lines.specs.Lines.{numberLine, valueLine, eachFrom, members, withCommas, setLine, registerLine, messageLine, mailText, standingText, signalLine, flightLine, pairText}
+use Rattle.text.specs.Writing.{digitsIn, digits, intText, each, numberLine}
+use Rattle.listing_lines.specs.Lines.{valueLine, eachFrom, members, withCommas, setLine, registerLine, messageLine, mailText, standingText, signalLine, flightLine, pairText}
 use Rattle.listing.specs.Listing.{rowsText, listingText, listingOf}
 
 -- after run=1 three times, arrive=2,1, run=2

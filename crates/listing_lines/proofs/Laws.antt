@@ -1,5 +1,5 @@
 -- Laws of the lines' texts, in the form in which their writers meet them. Assumes nothing.
---   _▸_ wrote-as wrote-none           texts one behind the other, a text under another name, nothing written
+--   wrote-none                        nothing written
 --   drop-next                         what a list holds from place k on
 --   left-message left-signal          a turn of the loops over messages and over signals; with -end, their ends
 --   left-member                       the same for the loop over a link set
@@ -36,17 +36,9 @@ use Rattle.rules.proofs.All.{rising-at}
 use Rattle.rules.specs.Nodes.{standing, standingIn, setOf}
 use Rattle.node.specs.Values.{numbers, isNumber}
 use Rattle.text.proofs.Writing.{Left, left-all, left-more, left-none, left-item, left-end, wrote-then}
-use Rattle.text.specs.Writing.{top, Wrote, digits, digitsIn, each}
-use Rattle.listing_lines.specs.Lines.{comma, numberLine, valueLine, eachFrom, joinsIf, members, withCommas, registerLine, messageLine, mailText, standingText, signalLine, flightLine, pairText}
+use Rattle.text.specs.Writing.{top, Wrote, digits, digitsIn, each, numberLine}
+use Rattle.listing_lines.specs.Lines.{comma, valueLine, eachFrom, joinsIf, members, withCommas, registerLine, messageLine, mailText, standingText, signalLine, flightLine, pairText}
 use Rattle.listing_lines.specs.Words.{mailKey}
-
--- texts one behind the other: `wrote-then`, written between
-infixl 20 _▸_
-pub _▸_ : {o s m t n : List ℕ} {a e r : ℕ} → Wrote o a s m e → Wrote m e t n r → Wrote o a (s ++ t) n r
-p ▸ q = wrote-then p q
-
-pub wrote-as : {o s t n : List ℕ} {a r : ℕ} → s ≡ t → Wrote o a s n r → Wrote o a t n r
-wrote-as e p = rw (← e) p
 
 pub wrote-none : (o : List ℕ) (a : ℕ) → length o ≤ top → a ≤ top → Wrote o a [] o a
 wrote-none o a h w = left-none (left-all o a [] h w)

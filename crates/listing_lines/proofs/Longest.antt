@@ -38,8 +38,8 @@ use Rattle.rules.specs.Nodes.{live, running, setOf, standing, standingIn, stand
 use Rattle.node.specs.Values.{numbers, isNumber, fitsInt, valueSound, messageSound}
 use Rattle.text.proofs.Digits.{digits-length}
 use Rattle.text.specs.Values.{valueText, numberText}
-use Rattle.text.specs.Writing.{digits, intText, each}
-use Rattle.listing_lines.specs.Lines.{lineEnd, comma, numberLine, valueLine, eachFrom, flag, joinsIf, members, withCommas, setLine, registerLine, messageLine, mailText, standingText, signalLine, flightLine, pairText}
+use Rattle.text.specs.Writing.{digits, intText, each, lineEnd, numberLine}
+use Rattle.listing_lines.specs.Lines.{comma, valueLine, eachFrom, flag, joinsIf, members, withCommas, setLine, registerLine, messageLine, mailText, standingText, signalLine, flightLine, pairText}
 use Rattle.listing_lines.specs.Words.{processKey, liveLine, closingLine, goneLine, behaviourKey, placeKey, trapKey, linksKey, reasonKey, mailKey, messageKey, noteKey, flightKey, msgKey, exitKey, linkLine, unlinkLine}
 
 pub record Within (s : List ℕ) (k : ℕ) : Type 0 where

@@ -1,6 +1,6 @@
 -- The lines of the listing (document 01, "Plan, steps and listing text"): what a value, a process and a pair of the view read as.
---   lineEnd comma         the byte that ends each line, and a comma
---   numberLine key n      a line with a number;  valueLine key v  a line with a value
+--   comma                 a comma
+--   valueLine key v       a line with a value
 --   eachFrom f i xs       the texts of the elements of xs with their numbers, the first having number i
 --   flag b                0 or 1
 --   members set l         the numbers of l that a set has
@@ -26,17 +26,11 @@ use Rattle.node.specs.Texts.{bytes}
 use Rattle.rules.specs.Nodes.{Standing, unborn, live, closing, gone}
 use Rattle.node.specs.Values.{numbers}
 use Rattle.text.specs.Values.{valueText}
-use Rattle.text.specs.Writing.{digits, each}
+use Rattle.text.specs.Writing.{digits, each, lineEnd, numberLine}
 use Rattle.listing_lines.specs.Words.{processKey, liveLine, closingLine, goneLine, behaviourKey, placeKey, trapKey, linksKey, reasonKey, mailKey, messageKey, noteKey, flightKey, msgKey, exitKey, linkLine, unlinkLine}
-
-abbrev pub lineEnd : List ℕ
-lineEnd = bytes "\n"
 
 abbrev pub comma : List ℕ
 comma = bytes ","
-
-unfoldable pub numberLine : List ℕ → ℕ → List ℕ
-numberLine key n = key ++ digits n ++ lineEnd
 
 unfoldable pub valueLine : List ℕ → Value → List ℕ
 valueLine key v = key ++ valueText v ++ lineEnd

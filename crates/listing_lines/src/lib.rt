@@ -12,6 +12,7 @@ use node::Value;
 use text::put_byte;
 use text::put_bytes;
 use text::put_number;
+use text::put_number_line;
 use text::put_value;
 ghost use mathlib.Core.Bool.{cond};
 ghost use mathlib.Core.List.{[], _∷_, _++_};
@@ -21,7 +22,7 @@ ghost use Rattle.node.specs.Rows.{signals};
 ghost use Rattle.rules.specs.Nodes.{setOf, running, live, closing, gone, standing};
 ghost use Rattle.node.specs.Values.{numbers};
 ghost use Rattle.text.specs.Writing.{Wrote, digits, each};
-ghost use Rattle.listing_lines.specs.Lines.{comma, numberLine, valueLine, eachFrom, flag, members, withCommas, setLine, registerLine, messageLine, mailText, standingText, signalLine, flightLine, pairText};
+ghost use Rattle.listing_lines.specs.Lines.{comma, valueLine, eachFrom, flag, members, withCommas, setLine, registerLine, messageLine, mailText, standingText, signalLine, flightLine, pairText};
 
 // Process i with its mailbox; an unborn process has no text.
 pub fn put_process(out: &mut [u8], at: usize, i: ProcessNumber, p: Process, m: Mailbox) -> usize
@@ -214,15 +215,6 @@ fn put_exit(out: &mut [u8], at: usize, v: Value, b: bool) -> usize
     let e = put_value(out, e, v);
     let e = put_byte(out, e, b',');
     let e = put_number(out, e, flag(b));
-    put_byte(out, e, b'\n')
-}
-
-// A key, a number and byte 10.
-pub fn put_number_line(out: &mut [u8], at: usize, key: &[u8], n: u64) -> usize
-    ensures { λ e. ⌜ Wrote (now (out .entry)) at (numberLine (now (key .entry)) n) (now (out .exit)) e ⌝ }
-{
-    let e = put_bytes(out, at, key);
-    let e = put_number(out, e, n);
     put_byte(out, e, b'\n')
 }
 

@@ -1,7 +1,7 @@
 -- Steps text (document 01: "Steps: `run=i`, `arrive=i,j`, numbers 0 to 255 (any other: 15); empty text is no steps").
 --   malformedLine        document 01's number for a malformed line
 --   byteOf l             l read as a number of 0 to 255
---   packedOf kind i j    the step of a kind, 0 run or 1 arrive, as one number, where both numbers were read
+--   packedOf kind i j    the number of the step of a kind, 0 run or 1 arrive, where its owner's and its sender's number were read
 --   arrivalOf fields     what follows `arrive=`: two fields
 --   stepOf line          what a line is, without its byte 10: a step, or refused as malformed
 --   lineOf x             the answer that the code's `Line` stands for: 15, or the step
@@ -15,9 +15,10 @@
 --   scheduleOf text      the answer for a text
 use mathlib.Core.Bool.{_&&_, cond}
 use mathlib.Core.List.{List, [], _∷_, _++_, map}
-use Prim.Native.Nat.{ℕ, _+_, _*_}
+use Prim.Native.Nat.{ℕ, _+_}
 use lib.Dec.{eqb, ltb}
 use lib.ListN.{length, getD, drop, replicate}
+use Rattle.actions.specs.Numbers.{encode}
 use Rattle.node.specs.Lists.{firsts}
 use Rattle.node.specs.Texts.{bytes}
 use Rattle.rules.specs.Answers.{Answer, refused, done, need, scheduleTooLong}
@@ -36,9 +37,10 @@ malformedLine = 15
 abbrev pub byteOf : List ℕ → Ranged
 byteOf l = rangedOf (numberOf l) 0 255
 
--- a step as one number has its kind above its owner above its from
 unfoldable pub packedOf : ℕ → Ranged → Ranged → Answer ℕ
-packedOf kind i j = need (eqb (i .refusal) 0 && eqb (j .refusal) 0) malformedLine (done (kind * 65536 + i .number * 256 + j .number))
+packedOf kind i j =
+    need (eqb (i .refusal) 0 && eqb (j .refusal) 0) malformedLine
+    (done (encode (record { kind = kind; owner = record { 0 = i .number }; from = record { 0 = j .number } })))
 
 unfoldable pub arrivalOf : List (List ℕ) → Answer ℕ
 arrivalOf fields = need (eqb (length fields) 2) malformedLine (packedOf 1 (byteOf (getD fields 0 [])) (byteOf (getD fields 1 [])))

@@ -3,7 +3,10 @@ ghost use mathlib.Core.Path.{_≡_};
 ghost use lib.ListN.{set};
 ghost use Rattle.text.specs.Parts.{fieldsOf};
 ghost use Rattle.schedule.specs.Reading.{packedOf, arrivalOf, stepOf, lineOf, refusedText, scheduleOf};
+use actions::encode;
+use node::ProcessNumber;
 use node::SCHEDULE_TOO_LONG;
+use node::Step;
 use text::Ranged;
 
 // Text above this many bytes is refused.
@@ -14,8 +17,8 @@ const ROOM: usize = 4096;
 
 const MALFORMED: u8 = 15;
 
-// The number told, 15, 32 or 0; the malformed line, from 1, or 0; and the steps, of which there are none with a refusal. A step is the
-// number kind * 65536 + owner * 256 + from; the entries behind the last are 0.
+// The number told, 15, 32 or 0; the malformed line, from 1, or 0; and the steps, of which there are none with a refusal. A step is
+// its number (`actions::encode`); the entries behind the last are 0.
 pub struct Schedule {
     pub number: u8,
     pub line: usize,
@@ -126,5 +129,10 @@ fn packed(kind: u8, owner: Ranged, from: Ranged) -> Line
     if from.refusal != 0 {
         return Line::Malformed;
     }
-    Line::Step((kind as u32) * 65536 + (owner.number as u32) * 256 + (from.number as u32))
+    let step = Step {
+        kind,
+        owner: ProcessNumber(owner.number),
+        from: ProcessNumber(from.number),
+    };
+    Line::Step(encode(step))
 }

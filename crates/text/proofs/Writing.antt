@@ -1,5 +1,5 @@
 -- Laws of writing: texts written one after another, and what is left to write in a loop. Assumes nothing.
---   wrote-then        two texts, one behind the other
+--   wrote-then _▸_    two texts, one behind the other;  wrote-as  a text under another name
 --   wrote-length      a buffer keeps its length
 --   wrote-whole       a text that fits, written at the start
 --   counted-short counted-fits counted-length   what the place behind a text says of its length
@@ -45,6 +45,14 @@ wrote-then {o} {s} {m} {t} {n} {a} {e} {r} p q = record {
   place = omega (arith, p .place, q .place, length-append s t);
   short = p .short;
 }
+
+-- texts one behind the other: `wrote-then`, written between
+infixl 20 _▸_
+pub _▸_ : {o s m t n : List ℕ} {a e r : ℕ} → Wrote o a s m e → Wrote m e t n r → Wrote o a (s ++ t) n r
+p ▸ q = wrote-then p q
+
+pub wrote-as : {o s t n : List ℕ} {a r : ℕ} → s ≡ t → Wrote o a s n r → Wrote o a t n r
+wrote-as e p = rw (← e) p
 
 pub wrote-whole : {o text n : List ℕ} {r : ℕ} → Wrote o 0 text n r → length text ≤ length o → n ≡ text ++ drop (length text) o
 wrote-whole {o} {text} p h = p .bytes ∙ sets-eq text o 0 (omega arith) ∙ simp zero-add

@@ -5,6 +5,8 @@
 --   digitsIn f t n  n in base ten; t says that n is below 10, and f, at least n, bounds the recursion
 --   digits n        n in base ten
 --   intText z       z in base ten, with a minus where it is below 0
+--   lineEnd         the byte that ends each line
+--   numberLine key n   a line with a key and a number
 --   each f xs       the texts of the elements of xs, one after another
 use mathlib.Core.Bool.{Bool, true, false}
 use mathlib.Core.List.{List, [], _∷_, _++_}
@@ -15,6 +17,7 @@ use lib.Dec.{ltb}
 use lib.IntN.{ℤ, pos, negsuc}
 use lib.ListN.{length}
 use lib.Seq.{sets}
+use Rattle.node.specs.Texts.{bytes}
 
 abbrev pub top : ℕ
 top = 18446744073709551615
@@ -37,6 +40,12 @@ digits n = digitsIn n (ltb n 10) n
 unfoldable pub intText : ℤ → List ℕ
 intText (pos n) = digits n
 intText (negsuc n) = code "-" ∷ digits (suc n)
+
+abbrev pub lineEnd : List ℕ
+lineEnd = bytes "\n"
+
+unfoldable pub numberLine : List ℕ → ℕ → List ℕ
+numberLine key n = key ++ digits n ++ lineEnd
 
 unfoldable pub each : {X : Type 0} → (X → List ℕ) → List X → List ℕ
 each f [] = []

@@ -11,7 +11,7 @@ ghost use Rattle.node.specs.Lists.{allOf};
 ghost use Rattle.text.specs.Parts.{placeFrom, fieldsOf, indexOf, equal, startsWith};
 ghost use Rattle.text.specs.Numbers.{isDigit, unsignedForm, digitValue, decimal, ceiling, signedOf, numberOf, noNumber, rangedOf};
 ghost use Rattle.text.specs.Values.{noValue, plusOf, minusOf, intOf, valueOf, letterOf, valueText};
-ghost use Rattle.text.specs.Writing.{Wrote, digits, intText};
+ghost use Rattle.text.specs.Writing.{Wrote, digits, intText, numberLine};
 
 // A wrong number form or letter.
 pub const MALFORMED: u8 = 11;
@@ -266,6 +266,15 @@ pub fn put_value(out: &mut [u8], at: usize, v: Value) -> usize
         Value::Atom(a) => put_number(out, e, a as u64),
         Value::Pid(i) => put_number(out, e, i.0 as u64),
     }
+}
+
+// A key, a number and byte 10.
+pub fn put_number_line(out: &mut [u8], at: usize, key: &[u8], n: u64) -> usize
+    ensures { λ e. ⌜ Wrote (now (out .entry)) at (numberLine (now (key .entry)) n) (now (out .exit)) e ⌝ }
+{
+    let e = put_bytes(out, at, key);
+    let e = put_number(out, e, n);
+    put_byte(out, e, b'\n')
 }
 
 // The value of a digit; 0 for a byte below the digits.

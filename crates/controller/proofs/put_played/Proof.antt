@@ -2,8 +2,8 @@
 use borrow.Author.Needs.{needs}
 use Rattle.controller.proofs.put_played.Statement.{statement}
 use Rattle.controller.proofs.put_played.Tie as tie
-use Rattle.listing_lines.proofs.Laws.{_▸_}
 use Rattle.controller.specs.Program.{playedText}
+use Rattle.text.proofs.Writing.{_▸_}
 
 slice-aggregate-put-number-line : tie.Need-slice-aggregate-put-number-line
 slice-aggregate-put-number-line c = search needs

@@ -2,8 +2,8 @@
 use borrow.Author.Needs.{needs}
 use Rattle.controller.proofs.put_refused.Statement.{statement}
 use Rattle.controller.proofs.put_refused.Tie as tie
-use Rattle.listing_lines.proofs.Laws.{_▸_}
 use Rattle.controller.specs.Program.{refusedLine}
+use Rattle.text.proofs.Writing.{_▸_}
 
 put-bytes-requires : tie.Need-put-bytes-requires
 put-bytes-requires c κs = search needs

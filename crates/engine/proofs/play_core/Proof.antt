@@ -11,7 +11,7 @@ use Rattle.rules.specs.Steps.{played}
 use Rattle.actions.specs.Numbers.{actionOf}
 use Rattle.actions.proofs.Decoding.{meant}
 use Rattle.engine.proofs.Laws.{Left, start, stop, more, over}
-use Rattle.actions.proofs.Turns.{op-read, eight-read, turn-20, turn-21, turn-23, turn-refused, turn-joined, turn-dropped, turn-22, turn-26, turn-sent, turn-27, turn-born, turn-plain, turn-25, turn-received}
+use Rattle.engine.proofs.Turns.{op-read, eight-read, turn-20, turn-21, turn-23, turn-refused, turn-joined, turn-dropped, turn-22, turn-26, turn-sent, turn-27, turn-born, turn-plain, turn-25, turn-received}
 use Rattle.engine.proofs.play_core.Statement.{statement}
 use Rattle.engine.proofs.play_core.Tie as tie
 

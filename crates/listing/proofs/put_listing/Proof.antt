@@ -1,8 +1,7 @@
 -- `put_listing` writes the processes, then the pairs. Assumes nothing.
 use borrow.Author.Needs.{needs}
-use Rattle.text.proofs.Writing.{wrote-length}
+use Rattle.text.proofs.Writing.{wrote-length, _▸_}
 use Rattle.listing.specs.Listing.{listingOf, listingText}
-use Rattle.listing_lines.proofs.Laws.{_▸_}
 use Rattle.listing.proofs.put_listing.Statement.{statement}
 use Rattle.listing.proofs.put_listing.Tie as tie
 

@@ -1,8 +1,7 @@
 -- `put_closing` writes a closing process: its stage, reason and links. Assumes nothing.
 use borrow.Author.Needs.{needs}
-use Rattle.text.proofs.Writing.{wrote-length}
+use Rattle.text.proofs.Writing.{wrote-length, _▸_}
 use Rattle.listing_lines.specs.Lines.{standingText}
-use Rattle.listing_lines.proofs.Laws.{_▸_}
 use Rattle.listing_lines.proofs.put_closing.Statement.{statement}
 use Rattle.listing_lines.proofs.put_closing.Tie as tie
 

@@ -1,10 +1,9 @@
 -- `put_exit` writes an exit signal: its reason, then whether it was sent along a link. Assumes nothing.
 use mathlib.Core.Path.{ap}
 use borrow.Author.Needs.{needs}
-use Rattle.text.proofs.Writing.{wrote-length}
+use Rattle.text.proofs.Writing.{wrote-length, _▸_, wrote-as}
 use Rattle.text.specs.Writing.{digits}
 use Rattle.listing_lines.specs.Lines.{signalLine}
-use Rattle.listing_lines.proofs.Laws.{_▸_, wrote-as}
 use Rattle.listing_lines.proofs.put_exit.Statement.{statement}
 use Rattle.listing_lines.proofs.put_exit.Tie as tie
 

@@ -1,8 +1,7 @@
 -- `put_flight_line` writes the first line of a pair. Assumes nothing.
 use borrow.Author.Needs.{needs}
-use Rattle.text.proofs.Writing.{wrote-length}
+use Rattle.text.proofs.Writing.{wrote-length, _▸_}
 use Rattle.listing_lines.specs.Lines.{flightLine}
-use Rattle.listing_lines.proofs.Laws.{_▸_}
 use Rattle.listing_lines.proofs.put_flight_line.Statement.{statement}
 use Rattle.listing_lines.proofs.put_flight_line.Tie as tie
 

@@ -1,8 +1,7 @@
 -- `put_gone` writes a gone process: only its stage. Assumes nothing.
 use borrow.Author.Needs.{needs}
-use Rattle.text.proofs.Writing.{wrote-length}
+use Rattle.text.proofs.Writing.{wrote-length, _▸_}
 use Rattle.listing_lines.specs.Lines.{standingText}
-use Rattle.listing_lines.proofs.Laws.{_▸_}
 use Rattle.listing_lines.proofs.put_gone.Statement.{statement}
 use Rattle.listing_lines.proofs.put_gone.Tie as tie
 

@@ -1,12 +1,12 @@
 -- `put_live` writes a live process: its stage, then what it holds. Assumes nothing.
 use mathlib.Core.Path.{ap}
 use borrow.Author.Needs.{needs}
-use Rattle.text.proofs.Writing.{wrote-length}
-use Rattle.listing_lines.specs.Lines.{numberLine, standingText}
+use Rattle.text.proofs.Writing.{wrote-length, _▸_, wrote-as}
+use Rattle.listing_lines.specs.Lines.{standingText}
 use Rattle.listing_lines.specs.Words.{trapKey}
-use Rattle.listing_lines.proofs.Laws.{_▸_, wrote-as}
 use Rattle.listing_lines.proofs.put_live.Statement.{statement}
 use Rattle.listing_lines.proofs.put_live.Tie as tie
+use Rattle.text.specs.Writing.{numberLine}
 
 slice-aggregate-put-number-line : tie.Need-slice-aggregate-put-number-line
 slice-aggregate-put-number-line c = search needs

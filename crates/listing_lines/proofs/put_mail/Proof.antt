@@ -1,7 +1,7 @@
 -- `put_mail` writes how many messages a mailbox has, then each. Assumes nothing.
 use borrow.Author.Needs.{needs}
-use Rattle.text.proofs.Writing.{wrote-length}
-use Rattle.listing_lines.proofs.Laws.{_▸_, wrote-as, mail-text}
+use Rattle.text.proofs.Writing.{wrote-length, _▸_, wrote-as}
+use Rattle.listing_lines.proofs.Laws.{mail-text}
 use Rattle.listing_lines.proofs.put_mail.Statement.{statement}
 use Rattle.listing_lines.proofs.put_mail.Tie as tie
 

@@ -1,8 +1,7 @@
 -- `put_note` writes a note: the sender with its letter, then the reason. Assumes nothing.
 use borrow.Author.Needs.{needs}
-use Rattle.text.proofs.Writing.{wrote-length}
+use Rattle.text.proofs.Writing.{wrote-length, _▸_}
 use Rattle.listing_lines.specs.Lines.{messageLine}
-use Rattle.listing_lines.proofs.Laws.{_▸_}
 use Rattle.listing_lines.proofs.put_note.Statement.{statement}
 use Rattle.listing_lines.proofs.put_note.Tie as tie
 

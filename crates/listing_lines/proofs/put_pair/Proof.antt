@@ -2,9 +2,10 @@
 use mathlib.Core.Path.{sym}
 use native.Mathlib.Omega.{arith}
 use borrow.Author.Needs.{needs}
-use Rattle.listing_lines.proofs.Laws.{_▸_, wrote-as, wrote-none, pair-none, pair-some}
+use Rattle.listing_lines.proofs.Laws.{wrote-none, pair-none, pair-some}
 use Rattle.listing_lines.proofs.put_pair.Statement.{statement}
 use Rattle.listing_lines.proofs.put_pair.Tie as tie
+use Rattle.text.proofs.Writing.{_▸_, wrote-as}
 
 returns : tie.Need-returns
 returns c =

@@ -2,9 +2,10 @@
 use native.Mathlib.Omega.{arith}
 use borrow.Author.Needs.{needs}
 use Rattle.listing_lines.specs.Lines.{standingText}
-use Rattle.listing_lines.proofs.Laws.{wrote-as, wrote-none, standing-in}
+use Rattle.listing_lines.proofs.Laws.{wrote-none, standing-in}
 use Rattle.listing_lines.proofs.put_process.Statement.{statement}
 use Rattle.listing_lines.proofs.put_process.Tie as tie
+use Rattle.text.proofs.Writing.{wrote-as}
 
 enum-told : tie.Need-enum-told
 enum-told c = search needs

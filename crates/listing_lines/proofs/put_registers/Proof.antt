@@ -1,7 +1,7 @@
 -- `put_registers` writes the four registers. Assumes nothing.
 use borrow.Author.Needs.{needs}
-use Rattle.text.proofs.Writing.{wrote-length}
-use Rattle.listing_lines.proofs.Laws.{_▸_, wrote-as, registers-text}
+use Rattle.text.proofs.Writing.{wrote-length, _▸_, wrote-as}
+use Rattle.listing_lines.proofs.Laws.{registers-text}
 use Rattle.listing_lines.proofs.put_registers.Statement.{statement}
 use Rattle.listing_lines.proofs.put_registers.Tie as tie
 

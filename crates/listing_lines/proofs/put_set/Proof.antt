@@ -1,8 +1,7 @@
 -- `put_set` writes a key and a set of processes. Assumes nothing.
 use borrow.Author.Needs.{needs}
-use Rattle.text.proofs.Writing.{wrote-length}
+use Rattle.text.proofs.Writing.{wrote-length, _▸_}
 use Rattle.listing_lines.specs.Lines.{setLine}
-use Rattle.listing_lines.proofs.Laws.{_▸_}
 use Rattle.listing_lines.proofs.put_set.Statement.{statement}
 use Rattle.listing_lines.proofs.put_set.Tie as tie
 

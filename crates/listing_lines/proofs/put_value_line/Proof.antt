@@ -1,8 +1,7 @@
 -- `put_value_line` writes a key, a value and byte 10. Assumes nothing.
 use borrow.Author.Needs.{needs}
-use Rattle.text.proofs.Writing.{wrote-length}
+use Rattle.text.proofs.Writing.{wrote-length, _▸_}
 use Rattle.listing_lines.specs.Lines.{valueLine}
-use Rattle.listing_lines.proofs.Laws.{_▸_}
 use Rattle.listing_lines.proofs.put_value_line.Statement.{statement}
 use Rattle.listing_lines.proofs.put_value_line.Tie as tie
 

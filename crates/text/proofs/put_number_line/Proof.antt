@@ -1,10 +1,9 @@
 -- `put_number_line` writes a key, a number and byte 10. Assumes nothing.
 use borrow.Author.Needs.{needs}
-use Rattle.text.proofs.Writing.{wrote-length}
-use Rattle.listing_lines.specs.Lines.{numberLine}
-use Rattle.listing_lines.proofs.Laws.{_▸_}
-use Rattle.listing_lines.proofs.put_number_line.Statement.{statement}
-use Rattle.listing_lines.proofs.put_number_line.Tie as tie
+use Rattle.text.specs.Writing.{numberLine}
+use Rattle.text.proofs.Writing.{wrote-length, _▸_}
+use Rattle.text.proofs.put_number_line.Statement.{statement}
+use Rattle.text.proofs.put_number_line.Tie as tie
 
 put-bytes-requires : tie.Need-put-bytes-requires
 put-bytes-requires c κs = search needs

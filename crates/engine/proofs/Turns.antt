@@ -38,11 +38,11 @@ use Rattle.rules.proofs.Keeps.{Keeps, NotBoth}
 use Rattle.rules.proofs.Kept.{Parts, parts-of, decided-keeps, owner-number}
 use Rattle.rules.proofs.Paths.{behaviour-bounds, code-length, code-bound, code-at, recv-bounds, rule-20, rule-21, rule-23, rule-undecided, rule-26, rule-27, rule-done, stored, commit-plain, commit-received, commit-sent, commit-born, commit-dropped, commit-joined}
 use Rattle.rules.proofs.Records.{number-bounds}
 use Rattle.actions.proofs.Decoding.{Means}
 use Rattle.actions.specs.declared.Decoded.{Decoded}
 use Rattle.actions.specs.Places.{processAt, rowAt, behaviourAt}
 use Rattle.actions.specs.Places as places
-use Rattle.actions.proofs.Recv.{AtRecv, only-recv}
+use Rattle.engine.proofs.Recv.{AtRecv, only-recv}
 
 -- ---- the code of a process
 
