@@ -16,13 +16,13 @@ use Rattle.engine.specs.Answers.{steppedBy}
 use Rattle.node.specs.declared.Node.{Node}
 use Rattle.plan.specs.Plans.{loadOf}
 use Rattle.rules.specs.Nodes.{sound}
-use Rattle.rules.specs.Steps.{Action, Played, play, step}
+use Rattle.rules.specs.Steps.{Action, Outcome, play, step}
 use Rattle.schedule.specs.Reading.{scheduleOf}
 
 unfoldable pub after : {A : Type 0} → ℕ → A → A → A
 after rounds before x = cond (eqb rounds 0) before x
 
-abbrev pub playedBy : List ℕ → List ℕ → Played
+abbrev pub playedBy : List ℕ → List ℕ → Outcome
 playedBy planText stepsText = play (loadOf planText .node) (steps (scheduleOf stepsText))
 
 abbrev pub reachedBy : List ℕ → List ℕ → Node

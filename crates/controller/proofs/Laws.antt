@@ -21,7 +21,7 @@ use Rattle.plan.specs.declared.Loaded.{Loaded}
 use Rattle.plan.specs.Plans.{loadOf}
 use Rattle.rules.proofs.Refusals.{told-31, not-told-31}
 use Rattle.rules.specs.Nodes.{sound}
-use Rattle.rules.specs.Steps.{Action, Played, play}
+use Rattle.rules.specs.Steps.{Action, Outcome, play}
 use Rattle.schedule.specs.declared.Schedule.{Schedule}
 use Rattle.schedule.specs.Reading.{scheduleOf}
 use Rattle.controller.specs.Calls.{unplayed, listed, playedListed, playedShown}
@@ -59,7 +59,7 @@ told-within o t p = rw (p .0, p .1) (go (ltb (length o) (length t)))
 
 module _ (n : Node) (l : List Action) (o : List ℕ) (r : Answered) (plays : playedOf r ≡ play n l) where
   refusal-is : r .refusal ≡ play n l .refusal
-  refusal-is = ap (λ (y : Played). y .refusal) plays
+  refusal-is = ap (λ (y : Outcome). y .refusal) plays
 
   pub listed-unsound : r .refusal ≡ 31 → (unplayed n 31 ≡ playedListed n l o) × (o ≡ playedShown n l o)
   unfolding playedListed playedShown
@@ -70,7 +70,7 @@ module _ (n : Node) (l : List Action) (o : List ℕ) (r : Answered) (plays : pla
     sounds = not-told-31 n l (λ e. other (refusal-is ∙ e))
 
     node-is : r .node ≡ play n l .node
-    node-is = ap (λ (y : Played). y .node) plays
+    node-is = ap (λ (y : Outcome). y .node) plays
 
     shown-is : m ≡ playedShown n l o
     unfolding playedShown

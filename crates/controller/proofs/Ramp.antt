@@ -31,7 +31,7 @@ use Rattle.rules.specs.Behaviours.{operand, instruction, operandInRange, inRang
 use Rattle.rules.specs.Nodes.{Sound, sound, shaped, viewSound, view, behavioursOf, code, setOf, standing, runningSound, rowSound}
 use Rattle.rules.specs.Receive.{receives, fits}
 use Rattle.rules.specs.Run.{runs, runsLive, runsOp, closes}
-use Rattle.rules.specs.Steps.{Action, run, arrive, meaning, Played, play, played, step, rule, ready, commit, incoming, decide, at, numbered, ownerBorn, signalWaits, pairHasRoom, numberFree}
+use Rattle.rules.specs.Steps.{Action, run, arrive, meaning, Outcome, play, played, step, rule, ready, commit, incoming, decide, at, numbered, ownerBorn, signalWaits, pairHasRoom, numberFree}
 use Rattle.rules.proofs.Sample.{opOf, int, sample, started}
 use Rattle.actions.specs.Numbers.{decode, actionOf}
 use Rattle.listing.specs.Listing.{listingOf}
@@ -220,7 +220,7 @@ unfolding sample started opOf play played step rule ready commit incoming decide
 sample-count = (refl, refl)
 
 -- what is printed of a play whose count, refusal and listing are known
-shown-as : (r : Played) (text : List ℕ) → r .accepted ≡ 5 → r .refusal ≡ 0 → listingOf (r .node) ≡ text → playedText r ≡ bytes "accepted=5\nrefused=0\n" ++ text
+shown-as : (r : Outcome) (text : List ℕ) → r .accepted ≡ 5 → r .refusal ≡ 0 → listingOf (r .node) ≡ text → playedText r ≡ bytes "accepted=5\nrefused=0\n" ++ text
 unfolding playedText numberLine digits digitsIn
 shown-as r text a b c = rw (a, b, c)
 

@@ -13,7 +13,7 @@ use Rattle.listing.specs.Listing.{listingOf}
 use Rattle.node.specs.declared.Node.{Node}
 use Rattle.rules.specs.Answers.{notSound}
 use Rattle.rules.specs.Nodes.{sound}
-use Rattle.rules.specs.Steps.{Action, Played, play}
+use Rattle.rules.specs.Steps.{Action, Outcome, play}
 use Rattle.controller.specs.declared.PlayedListed.{PlayedListed}
 use Rattle.controller.specs.declared.Simulated.{Simulated}
 
@@ -24,7 +24,7 @@ simulatedOf r = record { number = r .number; length = r .length }
 abbrev pub unplayed : Node → ℕ → PlayedListed
 unplayed n k = record { accepted = 0; refusal = k; length = 0; node = n }
 
-abbrev pub listed : Played → PlayedListed
+abbrev pub listed : Outcome → PlayedListed
 listed r = record { accepted = r .accepted; refusal = r .refusal; length = length (listingOf (r .node)); node = r .node }
 
 -- 31, then 30 against the listing of the node that the play gives, then what the play gives

@@ -14,7 +14,7 @@ use Rattle.actions.specs.Numbers.{actionOf}
 use Rattle.listing.specs.Listing.{listingOf}
 use Rattle.plan.specs.declared.Loaded.{Loaded}
 use Rattle.plan.specs.Plans.{loadOf}
-use Rattle.rules.specs.Steps.{Action, Played, play}
+use Rattle.rules.specs.Steps.{Action, Outcome, play}
 use Rattle.schedule.specs.declared.Schedule.{Schedule}
 use Rattle.schedule.specs.Reading.{scheduleOf}
 use Rattle.text.specs.Writing.{digits, numberLine}
@@ -36,7 +36,7 @@ unfoldable pub refusedLine : List ℕ → ℕ → ℕ → List ℕ
 refusedLine key k line = key ++ digits k ++ bytes "," ++ digits line ++ bytes "\n"
 
 -- "`accepted=`, `refused=` and the listing"
-unfoldable pub playedText : Played → List ℕ
+unfoldable pub playedText : Outcome → List ℕ
 playedText r = numberLine acceptedKey (r .accepted) ++ numberLine refusedKey (r .refusal) ++ listingOf (r .node)
 
 abbrev pub steps : Schedule → List Action

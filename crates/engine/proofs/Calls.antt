@@ -15,7 +15,7 @@ use Rattle.node.specs.declared.Step.{Step}
 use Rattle.node.specs.Lists.{rising, allOf}
 use Rattle.rules.specs.Answers.{Answer, refused, done, need}
 use Rattle.rules.specs.Nodes.{Sound, sound}
-use Rattle.rules.specs.Steps.{Action, run, meaning, Played, step, rule, playsOn, played, play}
+use Rattle.rules.specs.Steps.{Action, run, meaning, Outcome, step, rule, playsOn, played, play}
 use Rattle.rules.specs.Suggest.{possible, isDone, acceptable}
 use Rattle.rules.proofs.All.{both, allOf-join}
 use Rattle.rules.proofs.Suggest.{possible-count}
@@ -41,7 +41,7 @@ module _ (n : Node) (l : List Action) where
 
 -- ---- one step
 
-abbrev stepped : Node → Played → Stepped
+abbrev stepped : Node → Outcome → Stepped
 stepped n r = record { refusal = r .refusal; node = r .node }
 
 -- a schedule of one step is that step
@@ -126,7 +126,7 @@ module _ (n : Node) (s : Step) (k : ℕ) (encoded : decode k ≡ s) where
 
   module _ (r : Answered) (h : playedOf r ≡ played n (map actionOf (k ∷ []))) where
     count-is : r .accepted ≡ played n (meaning s ∷ []) .accepted
-    count-is = ap (λ (x : Played). x .accepted) h ∙ rw action-of
+    count-is = ap (λ (x : Outcome). x .accepted) h ∙ rw action-of
 
     pub accepts : r .accepted ≡ 1 → So (acceptable n (meaning s))
     accepts q = tried-yes n (meaning s) (sym count-is ∙ q)

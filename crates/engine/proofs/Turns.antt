@@ -35,7 +35,7 @@ use Rattle.rules.specs.Run.{runs}
 use Rattle.rules.specs.Steps.{Action, run, arrive, owner, isUnborn, numbered, ownerBorn, signalWaits, pairHasRoom, numberFree, incoming, decide, rule}
 use Rattle.rules.proofs.Commute.{incoming-oldest}
 use Rattle.rules.proofs.Keeps.{Keeps, NotBoth}
-use Rattle.rules.proofs.Kept.{Parts, parts-of, decided-keeps, owner-number}
+use Rattle.rules.proofs.Commits.{Parts, parts-of, decided-keeps, owner-number}
 use Rattle.rules.proofs.Paths.{behaviour-bounds, code-length, code-bound, code-at, recv-bounds, rule-20, rule-21, rule-23, rule-undecided, rule-26, rule-27, rule-done, stored, commit-plain, commit-received, commit-sent, commit-born, commit-dropped, commit-joined}
 use Rattle.rules.proofs.Records.{number-bounds}
 use Rattle.actions.proofs.Decoding.{Means}

@@ -17,7 +17,7 @@ use Rattle.engine.specs.declared.Stepped.{Stepped}
 use Rattle.engine.specs.declared.Suggestion.{Suggestion}
 use Rattle.engine.specs.declared.Suggestion.the-variants.{Unsound, Next, Nothing}
 
-abbrev pub playedOf : Played → steps.Played
+abbrev pub playedOf : Played → steps.Outcome
 playedOf r = record { accepted = r .accepted; refusal = r .refusal; node = r .node }
 
 abbrev pub steppedBy : Node → Answer Node → Stepped

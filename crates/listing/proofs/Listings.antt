@@ -12,7 +12,7 @@ use lib.ListN.{length, drop}
 use Rattle.node.specs.declared.Node.{Node}
 use Rattle.node.specs.Rows.{signals}
 use Rattle.rules.proofs.All.{parts}
-use Rattle.rules.proofs.Kept.{parts-of, number-of}
+use Rattle.rules.proofs.Commits.{parts-of, number-of}
 use Rattle.rules.specs.Nodes.{process, mailbox, row, standing, view, behavioursOf, Equal, Sound}
 use Rattle.node.specs.Values.{numbers}
 use Rattle.listing_lines.proofs.Longest.{Within, _⊕_, made-within, longestProcess, standing-within, longestPair, pair-within}

@@ -14,18 +14,18 @@ use borrow.Author.Tests.{eq-eqb, ne-eqb, eqb-true, eqb-false}
 use lib.Dec.{eqb}
 use lib.ListN.{length, length-append}
 use Rattle.plan.specs.declared.Mark.{Mark}
-use Rattle.plan.specs.Marks.{leftAt, told, mapped, Within, Reached}
+use Rattle.plan.specs.Marks.{leftAt, markRead, mapped, Within, Reached}
 use Rattle.plan.specs.Plans.{more}
 use Rattle.plan.specs.Reading.{Left, Read, bad, good, thenOn, times}
 
 module _ {A : Type 0} (s : List ℕ) (m : Mark) (a : A) where
-  pub told-good : m .refusal ≡ 0 → told s m a ≡ good a (leftAt s m)
-  unfolding told
-  told-good e = rw (eq-eqb _ _ e)
+  pub markRead-good : m .refusal ≡ 0 → markRead s m a ≡ good a (leftAt s m)
+  unfolding markRead
+  markRead-good e = rw (eq-eqb _ _ e)
 
-  pub told-bad : (m .refusal ≡ 0 → ⊥) → told s m a ≡ bad (m .refusal) (m .line)
-  unfolding told
-  told-bad e = rw (ne-eqb _ _ e)
+  pub markRead-bad : (m .refusal ≡ 0 → ⊥) → markRead s m a ≡ bad (m .refusal) (m .line)
+  unfolding markRead
+  markRead-bad e = rw (ne-eqb _ _ e)
 
 pub mapped-same : {A : Type 0} (r : Read A) → r ≡ mapped (λ (a : A). a) r
 unfolding mapped
@@ -46,15 +46,15 @@ mapped-good f (good a l) e = (a, cc, cc)
 -- what is made of a result, made of it otherwise
 module _ {A B C : Type 0} (s : List ℕ) (m : Mark) (F : A → B) (G : A → C) (r : Read A) {b : B} {c : C} (q : Reached s m b (mapped F r))
     (h : (a : A) → b ≡ F a → c ≡ G a) where
-  mapped-by : (t : Bool) → eqb (m .refusal) 0 ≡ t → told s m c ≡ mapped G r
+  mapped-by : (t : Bool) → eqb (m .refusal) 0 ≡ t → markRead s m c ≡ mapped G r
   unfolding mapped
   mapped-by true e =
       let on = eqb-true (m .refusal) 0 e in
-      let was = mapped-good F r (sym (told-good s m b on) ∙ q .is) in
-      told-good s m c on ∙ ap (λ (y : C). good y (leftAt s m)) (h (was .0) (was .2)) ∙ ap (mapped G) (sym (was .1))
+      let was = mapped-good F r (sym (markRead-good s m b on) ∙ q .is) in
+      markRead-good s m c on ∙ ap (λ (y : C). good y (leftAt s m)) (h (was .0) (was .2)) ∙ ap (mapped G) (sym (was .1))
   mapped-by false e =
       let off = eqb-false (m .refusal) 0 e in
-      told-bad s m c off ∙ ap (mapped G) (sym (mapped-bad F r (sym (told-bad s m b off) ∙ q .is)))
+      markRead-bad s m c off ∙ ap (mapped G) (sym (mapped-bad F r (sym (markRead-bad s m b off) ∙ q .is)))
 
   pub mapped-on : Reached s m c (mapped G r)
   mapped-on = record { is = mapped-by (eqb (m .refusal) 0) refl; within = q .within }
@@ -64,13 +64,13 @@ module _ {A B C D : Type 0} (s : List ℕ) (x : Mark) (G : A → B) {b : B} (r :
   pub made-stop : (z : D) → (x .refusal ≡ 0 → ⊥) → Reached s x z (mapped F (thenOn r f))
   unfolding mapped
   made-stop z h =
-      let was = mapped-bad G r (sym (told-bad s x b h) ∙ q .is) in
-      record { is = told-bad s x z h ∙ rw was; within = q .within }
+      let was = mapped-bad G r (sym (markRead-bad s x b h) ∙ q .is) in
+      record { is = markRead-bad s x z h ∙ rw was; within = q .within }
 
   pub made-on : {e : Mark} {z : D} → x .refusal ≡ 0 → ((a : A) → b ≡ G a → Reached s e z (mapped F (f a (leftAt s x)))) → Reached s e z (mapped F (thenOn r f))
   unfolding mapped
   made-on h p =
-      let was = mapped-good G r (sym (told-good s x b h) ∙ q .is) in
+      let was = mapped-good G r (sym (markRead-good s x b h) ∙ q .is) in
       let next = p (was .0) (was .2) in
       record { is = next .is ∙ ap (λ (u : Read A). mapped F (thenOn u f)) (sym (was .1)); within = next .within }
 
@@ -112,21 +112,21 @@ module _ {A B : Type 0} (s : List ℕ) (f : List A → Left → Read A) (F : Lis
     unfolding mapped times
     turn-end e =
         let last : good (F (t .xs)) (leftAt s m) ≡ g = rw e at (t .left) in
-        record { is = told-good s m b (t .on) ∙ ap (λ (y : B). good y (leftAt s m)) (t .made) ∙ last; within = t .within }
+        record { is = markRead-good s m b (t .on) ∙ ap (λ (y : B). good y (leftAt s m)) (t .made) ∙ last; within = t .within }
 
     -- a turn read x, of which it made y
     module _ {C : Type 0} (G : A → C) {x : Mark} {y : C} (r : Reached s x y (mapped G (f (t .xs) (leftAt s m)))) {k : ℕ} (e : j ≡ suc k) where
       pub turn-stop : (z : B) → (x .refusal ≡ 0 → ⊥) → Reached s x z g
       unfolding mapped times
       turn-stop z h =
-          let was : f (t .xs) (leftAt s m) ≡ bad (x .refusal) (x .line) = mapped-bad G _ (sym (told-bad s x y h) ∙ r .is) in
+          let was : f (t .xs) (leftAt s m) ≡ bad (x .refusal) (x .line) = mapped-bad G _ (sym (markRead-bad s x y h) ∙ r .is) in
           let whole : bad (x .refusal) (x .line) ≡ g = rw (e, was) at (t .left) in
-          record { is = told-bad s x z h ∙ whole; within = r .within }
+          record { is = markRead-bad s x z h ∙ whole; within = r .within }
 
       pub turn-more : {b′ : B} → x .refusal ≡ 0 → ((a : A) → y ≡ G a → b′ ≡ F (t .xs ++ (a ∷ []))) → Turn g (i + 1) k x b′
       unfolding mapped times
       turn-more {b′} h p =
-          let was = mapped-good G (f (t .xs) (leftAt s m)) (sym (told-good s x y h) ∙ r .is) in
+          let was = mapped-good G (f (t .xs) (leftAt s m)) (sym (markRead-good s x y h) ∙ r .is) in
           let next : remains k (t .xs ++ (was .0 ∷ [])) (leftAt s x) ≡ g = rw (e, was .1) at (t .left) in
           record {
             xs = t .xs ++ (was .0 ∷ []);

@@ -18,7 +18,7 @@ use Rattle.text.specs.Numbers.{malformed}
 use Rattle.text.specs.Parts.{lineThen, linesOf, placeFrom}
 use Rattle.text.proofs.Parts.{drop-at, place-after, place-inside, lines-at, lines-rest, lines-none}
 use Rattle.plan.specs.declared.Mark.{Mark}
-use Rattle.plan.specs.Marks.{leftAt, told, mapped, stopped, behind, endMark, Within, Reached}
+use Rattle.plan.specs.Marks.{leftAt, markRead, mapped, stopped, behind, endMark, Within, Reached}
 use Rattle.plan_line.specs.Lines.{answered}
 use Rattle.plan.specs.Reading.{bad, good, judged, onLine, endOf}
 
@@ -34,12 +34,12 @@ module _ (s : List ℕ) (m : Mark) {e : ℕ} (w : Within s m) (h : e ≡ placeFr
 
   module _ {A : Type 0} (f : List ℕ → Answer A) (a : A) {r : Mark} where
     pub line-missing : length s ≤ e → r ≡ stopped m malformed → Reached s r a (onLine f (leftAt s m))
-    unfolding told onLine
+    unfolding markRead onLine
     line-missing l p = record { is = rw (p, lines-rest s (w .at) h l); within = rw p (record { line = w .line; at = w .at; short = w .short }) }
 
     module _ (k : ℕ) (l : e < length s) (p : r ≡ behind m e k) where
-      read-by : (t : Bool) → eqb k 0 ≡ t → told s r a ≡ judged (answered k a) (m .line) (linesOf (drop (e + 1) s))
-      unfolding told behind
+      read-by : (t : Bool) → eqb k 0 ≡ t → markRead s r a ≡ judged (answered k a) (m .line) (linesOf (drop (e + 1) s))
+      unfolding markRead behind
       read-by true g = rw (p, g)
       read-by false g = rw (p, g, g)
 
@@ -68,7 +68,7 @@ module _ {A B : Type 0} (s : List ℕ) (m : Mark) (w : Within s m) (F : A → B)
 
   module _ (on : m .refusal ≡ 0) {b : B} (q : b ≡ F a) where
     end-by : (t : Bool) → ltb (m .at) (length s) ≡ t → Reached s (endMark s m) b (mapped F (endOf a (leftAt s m)))
-    unfolding endMark told mapped
+    unfolding endMark markRead mapped
     end-by true e =
         let is : endMark s m ≡ stopped m malformed = rw (eq-eqb (m .refusal) 0 on, e) in
         let left = some-left (ltb (placeFrom (code "\n") (m .at) s) (length s)) refl (ltb-true (m .at) (length s) e) in

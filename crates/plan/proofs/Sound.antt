@@ -30,7 +30,7 @@ use Rattle.rules.specs.Behaviours.{Instruction, codeSound, hasClauses, inRange,
 use Rattle.rules.specs.Nodes.{Sound, behavioursOf, code, mailbox, process, rowSound, standing, standingSound}
 use Rattle.rules.proofs.All.{both, parts, allOf-map}
 use Rattle.rules.proofs.Firsts.{set-read}
-use Rattle.rules.proofs.Kept.{of-parts}
+use Rattle.rules.proofs.Commits.{of-parts}
 use Rattle.rules.proofs.Places.{fresh-sound}
 use Rattle.rules.proofs.Records.{number-bounds}
 use Rattle.rules.proofs.Shape.{Sized}

@@ -22,7 +22,7 @@ use Rattle.plan.specs.declared.Mark.{Mark}
 use Rattle.plan.specs.Marks.{mapped, endMark, Reached}
 use Rattle.plan.specs.Plans.{Plan, textTooLong, illPlaced, more, codeLines, startLines, planLines, emptyNode, withCode, withStart, withEach, nodeOf, misplaced, refusedLoad, checked, loadedFrom, loadOf}
 use Rattle.plan.specs.Reading.{Left, Read, onLine, thenOn, times, endOf}
-use Rattle.plan.proofs.Loops.{told-good, told-bad, mapped-bad, mapped-good, made-stop, made-on}
+use Rattle.plan.proofs.Loops.{markRead-good, markRead-bad, mapped-bad, mapped-good, made-stop, made-on}
 use Rattle.plan.proofs.Marks.{end-stopped, end-read}
 
 abbrev pub endsIn : List (List Op) → List Start → Left → Read Plan
@@ -70,14 +70,14 @@ module _ (s : List ℕ) where
 
     pub load-stop : {r : Loaded} → (m .refusal ≡ 0 → ⊥) → r ≡ refusedLoad (m .refusal) (m .line) → r ≡ loadOf s
     load-stop h e =
-        let was = mapped-bad nodeOf _ (sym (told-bad s m node h) ∙ q .is) in
+        let was = mapped-bad nodeOf _ (sym (markRead-bad s m node h) ∙ q .is) in
         e ∙ sym (load-short ∙ ap loadedFrom was)
 
     module _ (on : m .refusal ≡ 0) {line : ℕ} (at : line ≡ misplacedFrom firstCode (codesOf (node .count) (node .lens) (node .ops))) where
       load-checked : (p : Plan) × (node ≡ nodeOf p) × (loadOf s ≡ checked p) × (line ≡ misplaced (nodeOf p))
       unfolding misplaced
       load-checked =
-          let was = mapped-good nodeOf _ (sym (told-good s m node on) ∙ q .is) in
+          let was = mapped-good nodeOf _ (sym (markRead-good s m node on) ∙ q .is) in
           let told : line ≡ misplacedFrom firstCode (behavioursOf node) = at ∙ ap (misplacedFrom firstCode) (codes-of node) in
           (was .0, was .2, load-short ∙ ap loadedFrom (was .1), told ∙ ap (λ (n : Node). misplacedFrom firstCode (behavioursOf n)) (was .2))
 

@@ -1,6 +1,6 @@
 -- How the code keeps its place in a text, and what that says of reading it.
 --   leftAt s m        what is left of the text s at mark m
---   told s m a        what is read of s, up to mark m: its refusal, or the result a
+--   markRead s m a    what is read of s, up to mark m: its refusal, or the result a
 --   mapped f r        what is read, its result changed by f
 --   stopped m k       mark m with refusal k
 --   behind m e k      the mark behind the line of m that ends at e; with a refusal, m and the refusal
@@ -21,8 +21,8 @@ use Rattle.plan.specs.Reading.{Left, Read, bad, good}
 abbrev pub leftAt : List ℕ → Mark → Left
 leftAt s m = record { text = linesOf (drop (m .at) s); first = m .line }
 
-unfoldable pub told : {A : Type 0} → List ℕ → Mark → A → Read A
-told s m a = cond (eqb (m .refusal) 0) (good a (leftAt s m)) (bad (m .refusal) (m .line))
+unfoldable pub markRead : {A : Type 0} → List ℕ → Mark → A → Read A
+markRead s m a = cond (eqb (m .refusal) 0) (good a (leftAt s m)) (bad (m .refusal) (m .line))
 
 unfoldable pub mapped : {A B : Type 0} → (A → B) → Read A → Read B
 mapped f (bad k n) = bad k n
@@ -44,5 +44,5 @@ pub record Within (s : List ℕ) (m : Mark) : Type 0 where
   pub short : length s ≤ 16384
 
 pub record Reached {A : Type 0} (s : List ℕ) (m : Mark) (a : A) (r : Read A) : Type 0 where
-  pub is : told s m a ≡ r
+  pub is : markRead s m a ≡ r
   pub within : Within s m

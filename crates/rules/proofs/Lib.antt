@@ -11,7 +11,7 @@ pub mod Runs
 pub mod Arrivals
 pub mod Accepted
 pub mod Shape
-pub mod Kept
+pub mod Commits
 pub mod Trace
 pub mod Commute
 pub mod Order

@@ -31,7 +31,7 @@ use Rattle.rules.specs.Traces.{Runs}
 use Rattle.rules.proofs.Accepted.{Act, goes-rule, step-rule, step-goes}
 use Rattle.rules.proofs.Commute.{act-kept, free-back, free-on, Off, free-off, off-a, commits-swap}
 use Rattle.rules.proofs.Keeps.{Keeps, NotBoth}
-use Rattle.rules.proofs.Kept.{parts-of, decided-keeps, act-keeps, step-sound, play-sound, play-played, owner-number}
+use Rattle.rules.proofs.Commits.{parts-of, decided-keeps, act-keeps, step-sound, play-sound, play-played, owner-number}
 use Rattle.rules.proofs.Records.{number-bounds}
 use Rattle.rules.proofs.Trace.{runs-append, Laws, order-runs}
 

@@ -29,7 +29,7 @@ use Rattle.node.specs.Values.{isNumber}
 use Rattle.rules.proofs.All.{parts}
 use Rattle.rules.proofs.Living.{live-within}
 use Rattle.rules.proofs.Places.{code-passes, code-size, recv-clauses}
-use Rattle.rules.proofs.Kept.{Parts, code-of}
+use Rattle.rules.proofs.Commits.{Parts, code-of}
 
 -- ---- refusals
 

@@ -134,22 +134,22 @@ step n a = need (sound n) notSound (rule n a)
 -- ---- a schedule
 
 -- "the answer is the count accepted, the refusal (0 if none) and the node then"
-pub record Played : Type 0 where
+pub record Outcome : Type 0 where
   pub accepted : ℕ
   pub refusal : ℕ
   pub node : Node
 
 -- an answer, and what is played from the node behind it
-abbrev pub playsOn : Node → Answer Node → (Node → Played) → Played
+abbrev pub playsOn : Node → Answer Node → (Node → Outcome) → Outcome
 playsOn n (refused k) f = record { accepted = 0; refusal = k; node = n }
 playsOn n (done m) f = let r = f m in record { accepted = r .accepted + 1; refusal = r .refusal; node = r .node }
 
-unfoldable pub played : Node → List Action → Played
+unfoldable pub played : Node → List Action → Outcome
 played n [] = record { accepted = 0; refusal = 0; node = n }
 played n (a ∷ l) = playsOn n (step n a) (λ m. played m l)
 
 -- "A play refused by 31 or 32 has count 0"
-unfoldable pub play : Node → List Action → Played
+unfoldable pub play : Node → List Action → Outcome
 play n l =
     cond (not (sound n)) (record { accepted = 0; refusal = notSound; node = n })
     (cond (ltb 4096 (length l)) (record { accepted = 0; refusal = scheduleTooLong; node = n })

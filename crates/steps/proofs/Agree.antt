@@ -6,7 +6,7 @@ use mathlib.Core.Path.{_≡_, refl, sym, _∙_, ap}
 use Prim.Native.Nat.{ℕ, _<_}
 use Rattle.node.specs.declared.Node.{Node}
 use Rattle.node.specs.declared.Step.{Step}
-use Rattle.rules.specs.Steps.{meaning, Played, play}
+use Rattle.rules.specs.Steps.{meaning, Outcome, play}
 use Rattle.actions.specs.Numbers.{encode, actionOf}
 use Rattle.actions.proofs.Decoding.{decode-encode}
 use Rattle.engine.specs.Answers.{playedOf}
@@ -23,7 +23,7 @@ encoded-means [] none = refl
 encoded-means (s ∷ l) (more a b c h) = rw (decode-encode s a b c, encoded-means l h)
 
 -- the answer that means r
-abbrev answerOf : Played → Answer
+abbrev answerOf : Outcome → Answer
 answerOf r = record { accepted = r .accepted; refusal = r .refusal; node = r .node }
 
 -- a is what `play` answers on numbers, b what `play_steps` answers on records, c what `play_lent` answers on the numbers

@@ -20,7 +20,7 @@ use Rattle.node.specs.declared.Node.{Node}
 use Rattle.node.specs.declared.Step.{Step}
 use Rattle.rules.specs.Answers.{Answer, refused, done, need}
 use Rattle.rules.specs.Nodes.{sound}
-use Rattle.rules.specs.Steps.{Action, Played, meaning, rule, step, playsOn, played, play}
+use Rattle.rules.specs.Steps.{Action, Outcome, meaning, rule, step, playsOn, played, play}
 use Rattle.rules.proofs.Refusals.{rule-told}
 use Rattle.rules.proofs.Told.{Told, Ruled}
 use Rattle.actions.specs.Numbers.{decode, actionOf}
@@ -47,7 +47,7 @@ step-numbered n a = go (sound n) (rule n a) (rule-told n a)
     go false x h = λ e. omega (arith, e)
 
 -- the record of a step's answer is what the answer makes of a play
-module _ (r : Played) (x : Answer Node) {s : Stepped} (its : s ≡ steppedBy (r .node) x) where
+module _ (r : Outcome) (x : Answer Node) {s : Stepped} (its : s ≡ steppedBy (r .node) x) where
   pub answer-refused : (s .refusal ≡ 0 → ⊥) → record { accepted = r .accepted; refusal = s .refusal; node = s .node } ≡ withAnswer r x
   answer-refused h = go x its
     where
@@ -64,10 +64,10 @@ module _ (r : Played) (x : Answer Node) {s : Stepped} (its : s ≡ steppedBy (r 
 
 -- ---- a play, and what is left of its steps
 
-unfoldable pub ahead : Played → List Action → Played
+unfoldable pub ahead : Outcome → List Action → Outcome
 ahead r l = cond (eqb (r .refusal) 0) (behind (r .accepted) (played (r .node) l)) r
 
-pub ahead-last : (r : Played) → ahead r [] ≡ r
+pub ahead-last : (r : Outcome) → ahead r [] ≡ r
 unfolding ahead played
 ahead-last r = go (eqb (r .refusal) 0) refl
   where
@@ -79,7 +79,7 @@ ahead-last r = go (eqb (r .refusal) 0) refl
     go false h = refl
 
 -- a play that is refused stays, whatever is left
-ahead-refused : (r : Played) (l : List Action) → eqb (r .refusal) 0 ≡ false → ahead r l ≡ r
+ahead-refused : (r : Outcome) (l : List Action) → eqb (r .refusal) 0 ≡ false → ahead r l ≡ r
 unfolding ahead
 ahead-refused r l h = rw h
 
@@ -87,7 +87,7 @@ pub ahead-first : (n : Node) (l : List Action) → ahead (begins n (length l)) l
 unfolding ahead begins play
 ahead-first n l = go (sound n) (ltb 4096 (length l))
   where
-    first : (k : ℕ) → Played
+    first : (k : ℕ) → Outcome
     first k = record { accepted = 0; refusal = k; node = n }
 
     go : (s b : Bool) → cond (eqb (cond (not s) 31 (cond b 32 0)) 0) (behind 0 (played n l)) (first (cond (not s) 31 (cond b 32 0))) ≡ cond (not s) (first 31) (cond b (first 32) (played n l))
@@ -96,7 +96,7 @@ ahead-first n l = go (sound n) (ltb 4096 (length l))
     go false b = refl
 
 -- a step that is answered by x, and the others behind it
-answered : (r : Played) (l : List Action) (x : Answer Node) → Told Numbered x → behind (r .accepted) (playsOn (r .node) x (λ m. played m l)) ≡ ahead (withAnswer r x) l
+answered : (r : Outcome) (l : List Action) (x : Answer Node) → Told Numbered x → behind (r .accepted) (playsOn (r .node) x (λ m. played m l)) ≡ ahead (withAnswer r x) l
 unfolding ahead
 answered r l (refused k) h = let e : r .accepted + 0 ≡ r .accepted = omega arith in rw (ne-eqb k 0 h) (λ i. record { accepted = e i; refusal = k; node = r .node })
 answered r l (done m) h =
@@ -104,7 +104,7 @@ answered r l (done m) h =
     let e : r .accepted + (p .accepted + 1) ≡ r .accepted + 1 + p .accepted = omega arith in
     λ i. record { accepted = e i; refusal = p .refusal; node = p .node }
 
-pub ahead-more : (r : Played) (a : Action) (l : List Action) → ahead r (a ∷ l) ≡ ahead (goesOn r a) l
+pub ahead-more : (r : Outcome) (a : Action) (l : List Action) → ahead r (a ∷ l) ≡ ahead (goesOn r a) l
 unfolding ahead played goesOn
 ahead-more r a l = go (eqb (r .refusal) 0) refl
   where
@@ -113,7 +113,7 @@ ahead-more r a l = go (eqb (r .refusal) 0) refl
     go false h = rw (h, h)
 
 -- a step more is counted, or none
-goesOn-counts : (r : Played) (a : Action) → goesOn r a .accepted ≤ r .accepted + 1
+goesOn-counts : (r : Outcome) (a : Action) → goesOn r a .accepted ≤ r .accepted + 1
 unfolding goesOn
 goesOn-counts r a = go (eqb (r .refusal) 0) (step (r .node) a)
   where
@@ -124,7 +124,7 @@ goesOn-counts r a = go (eqb (r .refusal) 0) (step (r .node) a)
 
 -- ---- a walk over the steps
 
-abbrev pub Walked : List Step → Played → ℕ → Played → Type 0
+abbrev pub Walked : List Step → Outcome → ℕ → Outcome → Type 0
 Walked ys g left r = ahead r (map meaning (drop (length ys - left) ys)) ≡ g
 
 pub walked-first : (n : Node) (ys : List Step) → Walked ys (play n (map meaning ys)) (length ys) (begins n (length ys))
@@ -133,9 +133,9 @@ walked-first n ys =
     let w : length (map meaning ys) ≡ length ys = length-map ys meaning in
     rw z (rw w at (ahead-first n (map meaning ys)))
 
-module _ (ys : List Step) {g : Played} where
+module _ (ys : List Step) {g : Outcome} where
   -- the step behind the others was handed over
-  handed : (left : ℕ) (p : Played) → 0 < left → left ≤ length ys → Walked ys g left p → Walked ys g (left - 1) (goesOn p (meaning (getD ys (length ys - left) noStep)))
+  handed : (left : ℕ) (p : Outcome) → 0 < left → left ≤ length ys → Walked ys g left p → Walked ys g (left - 1) (goesOn p (meaning (getD ys (length ys - left) noStep)))
   handed left p some inside v =
       let k = length ys - left in
       let z : length ys - (left - 1) ≡ k + 1 = omega (arith, some, inside) in
@@ -143,10 +143,10 @@ module _ (ys : List Step) {g : Played} where
       rw z (sym (ahead-more p (meaning (getD ys k noStep)) (map meaning (drop (k + 1) ys))) ∙ (rw w at v))
 
   -- all that is left is passed over once a step is refused
-  passed : (left : ℕ) (r : Played) → Walked ys g left r → eqb (r .refusal) 0 ≡ false → Walked ys g 0 r
+  passed : (left : ℕ) (r : Outcome) → Walked ys g left r → eqb (r .refusal) 0 ≡ false → Walked ys g 0 r
   passed left r v h = ahead-refused r (map meaning (drop (length ys - 0) ys)) h ∙ sym (ahead-refused r (map meaning (drop (length ys - left) ys)) h) ∙ v
 
-  pub walked-more : (left j : ℕ) (p r : Played) → 0 < left → left ≤ length ys → r ≡ goesOn p (meaning (getD ys (length ys - left) noStep)) → j ≡ cond (eqb (r .refusal) 0) (left - 1) 0
+  pub walked-more : (left j : ℕ) (p r : Outcome) → 0 < left → left ≤ length ys → r ≡ goesOn p (meaning (getD ys (length ys - left) noStep)) → j ≡ cond (eqb (r .refusal) 0) (left - 1) 0
       → Walked ys g left p
       → (j < left) × (r .accepted ≤ p .accepted + 1) × Walked ys g j r
   walked-more left j p r some inside e f v =
@@ -158,7 +158,7 @@ module _ (ys : List Step) {g : Played} where
       go true h more counts = let z : j ≡ left - 1 = f ∙ rw h in (omega (arith, z, some), counts, rw z more)
       go false h more counts = let z : j ≡ 0 = f ∙ rw h in (omega (arith, z, some), counts, rw z (passed (left - 1) r more h))
 
-  pub walked-last : (left : ℕ) (r : Played) → left ≤ 0 → Walked ys g left r → r ≡ g
+  pub walked-last : (left : ℕ) (r : Outcome) → left ≤ 0 → Walked ys g left r → r ≡ g
   walked-last left r none v =
       let z : length ys - left ≡ length ys = omega (arith, none) in
       sym (ahead-last r) ∙ (rw (z, drop-length ys) at v)
@@ -178,5 +178,5 @@ pub made-more : (xs : List ℕ) (ys : List Step) (k : ℕ) (y : Step) → k < le
 made-more xs ys k y h g d v =
     rw (add-one, take-suc-set ys k y g, take-suc xs k 0 h, map-append decode (take k xs) (getD xs k 0 ∷ []), v, d)
 
-pub made-all : {r : Played} (n : Node) (xs : List ℕ) (ys : List Step) → take (length xs) ys ≡ map decode xs → r ≡ play n (map meaning (take (length xs) ys)) → r ≡ play n (map actionOf xs)
+pub made-all : {r : Outcome} (n : Node) (xs : List ℕ) (ys : List Step) → take (length xs) ys ≡ map decode xs → r ≡ play n (map meaning (take (length xs) ys)) → r ≡ play n (map actionOf xs)
 made-all n xs ys v s = s ∙ rw (v, meant xs)

@@ -2,7 +2,7 @@
 use mathlib.Core.Path.{_∙_, ap}
 use borrow.Author.Needs.{needs}
 use Rattle.controller.proofs.Room.{count-room, count-taken}
-use Rattle.rules.specs.Steps.{Played, play}
+use Rattle.rules.specs.Steps.{Outcome, play}
 use Rattle.bench_c.proofs.Laws.{of-texts}
 use Rattle.bench_c.proofs.reached.Statement.{statement}
 use Rattle.bench_c.proofs.reached.Tie as tie
@@ -34,7 +34,7 @@ returns c =
     let its-read = c .before .before .before .before .before .read in
     let its-load = c .before .before .before .before .before .before .load in
     let its-args = c .before .before .before .before .before .before .before .before .before .args in
-    ap (λ (r : Played). r .node) (its-play .ensures) ∙ of-texts (λ n l. play n l .node) (its-args .plan .now) (its-args .steps .now) (its-load .ensures) (its-read .ensures)
+    ap (λ (r : Outcome). r .node) (its-play .ensures) ∙ of-texts (λ n l. play n l .node) (its-args .plan .now) (its-args .steps .now) (its-load .ensures) (its-read .ensures)
 
 pub reached-spec : {M : Type 1} → statement M
 reached-spec =

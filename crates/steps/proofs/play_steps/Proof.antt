@@ -89,7 +89,7 @@ abbrev stayed : Stays (play-steps.ended .signature .params) (play-steps.ended .k
 stayed = (stay-none (λ _. N.the-row) yes, (stay-none-slice (0 ∷ []) tt (plain (λ _. S.the-row)) yes, tt))
 
 -- where the loop stands: with play p, whose machine value is v, and `left` of the steps ys left to hand over
-record Spot (ys : List Step) (goal : steps.Played) : Type 0 where
+record Spot (ys : List Step) (goal : steps.Outcome) : Type 0 where
   left : ℕ
   p : Played
   v : Val
@@ -107,19 +107,19 @@ begins-at {ys} n p v is e = record {
   v = v;
   is = is;
   inside = omega arith;
-  few = let z : p .accepted ≡ 0 = ap (λ (r : steps.Played). r .accepted) e in omega (arith, z);
+  few = let z : p .accepted ≡ 0 = ap (λ (r : steps.Outcome). r .accepted) e in omega (arith, z);
   same = rw e (walked-first n ys);
 }
 
 -- where it stands once the next step was handed over, which gave play r, and j steps are left of the `rest` behind it
-goes-to : {ys : List Step} {goal : steps.Played} (t : Spot ys goal) (r : Played) (v : Val) → Is P.the-row r (v ∷ []) → (rest j : ℕ) → rest ≡ t .left - 1 → 0 < t .left
+goes-to : {ys : List Step} {goal : steps.Outcome} (t : Spot ys goal) (r : Played) (v : Val) → Is P.the-row r (v ∷ []) → (rest j : ℕ) → rest ≡ t .left - 1 → 0 < t .left
     → playedOf r ≡ goesOn (playedOf (t .p)) (meaning (getD ys (length ys - t .left) noStep)) → j ≡ cond (eqb (r .refusal) 0) rest 0 → Spot ys goal
 goes-to {ys} t r v is rest j one some e f =
     let up = walked-more ys (t .left) j (playedOf (t .p)) (playedOf r) some (t .inside) e (rw one at f) (t .same) in
     record { left = j; p = r; v = v; is = is; inside = omega (arith, up .0, t .inside); few = omega (arith, up .0, up .1, t .few); same = up .2 }
 
 -- there it is nearer to the end
-goes-less : {ys : List Step} {goal : steps.Played} (t : Spot ys goal) (r : Played) (rest j : ℕ) → rest ≡ t .left - 1 → 0 < t .left
+goes-less : {ys : List Step} {goal : steps.Outcome} (t : Spot ys goal) (r : Played) (rest j : ℕ) → rest ≡ t .left - 1 → 0 < t .left
     → playedOf r ≡ goesOn (playedOf (t .p)) (meaning (getD ys (length ys - t .left) noStep)) → j ≡ cond (eqb (r .refusal) 0) rest 0 → j < t .left
 goes-less {ys} t r rest j one some e f = walked-more ys (t .left) j (playedOf (t .p)) (playedOf r) some (t .inside) e (rw one at f) (t .same) .0
 
@@ -152,7 +152,7 @@ module _ {M : Type 1} (𝓤 : URA M) (H : Heap 𝓤) (A : Atoms 𝓤) (W : Given
   abbrev at : Vals play-steps.signature (κ, tt)
   at = (vn ∷ [], (sliceVal (b, o) (length ys) ∷ [], tt))
 
-  abbrev goal : steps.Played
+  abbrev goal : steps.Outcome
   goal = play n (map meaning ys)
 
   abbrev Post : Val → SProp 𝓤

@@ -4,7 +4,7 @@ use mathlib.Core.Path.{ap}
 use Prim.Native.Nat.{_-_}
 use borrow.Author.Needs.{needs}
 use Rattle.actions.specs.Numbers.{actionOf}
-use Rattle.rules.specs.Steps.{Played, play}
+use Rattle.rules.specs.Steps.{Outcome, play}
 use Rattle.bench_c.proofs.Laws.{Turn, turn-first, turn-next, turn-last}
 use Rattle.bench_c.proofs.rounds.plays.Statement.{statement}
 use Rattle.bench_c.proofs.rounds.plays.Tie as tie
@@ -32,7 +32,7 @@ loop-again c =
     let its-play = c .play in
     let its-loop-test = c .before .loop-test in
     let its-loop = c .before .before .loop in
-    turn-next (its-loop .inv) (its-loop-test .taken) (ap (λ (r : Played). r .accepted) (its-play .ensures))
+    turn-next (its-loop .inv) (its-loop-test .taken) (ap (λ (r : Outcome). r .accepted) (its-play .ensures))
 
 returns : tie.Need-returns Inv-loop μ-loop
 returns c = turn-last (c .before .loop .inv) (c .loop-test .left)
