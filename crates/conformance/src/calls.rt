@@ -6,7 +6,6 @@ use node::ProcessNumber;
 use node::Step;
 
 pub(crate) fn all() {
-    no_steps();
     longest();
     too_long();
     too_long_first();
@@ -19,21 +18,6 @@ pub(crate) fn all() {
     one_arrival();
     last_process();
     many();
-}
-
-// An empty row leaves the node.
-fn no_steps() {
-    show::case(
-        b"no steps",
-        b"plan=1
-behaviours=1
-code=1
-op=stop,0
-starts=1
-start=1,1
-",
-        b"",
-    );
 }
 
 // Process 1 counts its turns in r0.
@@ -54,23 +38,25 @@ start=1,1
 
 // A row of 4,096 runs of process 1 is played whole.
 fn longest() {
-    show::title(b"32 4,096 steps");
     let numbers = [256u32; 4096];
-    show::played(engine::play(counting(), &numbers));
+    played(b"32 4,096 steps", &numbers);
 }
 
 // Of a row of 4,097 none is played.
 fn too_long() {
-    show::title(b"32 4,097 steps");
     let numbers = [256u32; 4097];
-    show::played(engine::play(counting(), &numbers));
+    played(b"32 4,097 steps", &numbers);
 }
 
 // 32 is looked at before 20 of the first step.
 fn too_long_first() {
-    show::title(b"32 before 20");
     let numbers = [0u32; 4097];
-    show::played(engine::play(counting(), &numbers));
+    played(b"32 before 20", &numbers);
+}
+
+fn played(name: &[u8], numbers: &[u32]) {
+    show::title(name);
+    show::played(engine::play(counting(), numbers));
 }
 
 // A single step: a run, of which `from` means nothing; an arrival; and a record whose kind is neither.
@@ -110,13 +96,13 @@ start=1,1
 // Nothing can be done where all are unborn.
 fn nobody() {
     show::title(b"suggest: nobody is born");
-    suggested(Node::blank());
+    suggest(Node::blank());
 }
 
 // A process that waits for mail, with nothing in flight.
 fn waiting() {
-    show::title(b"suggest: a process waits");
-    suggested(show::reached(
+    suggested(
+        b"suggest: a process waits",
         b"plan=1
 behaviours=1
 code=2
@@ -126,13 +112,13 @@ starts=1
 start=1,1
 ",
         b"",
-    ));
+    );
 }
 
 // Process 1 sends to a full pair (26), and process 4, to whom the signals go, is unborn (21).
 fn blocked() {
-    show::title(b"suggest: a full pair to an unborn process");
-    suggested(show::reached(
+    suggested(
+        b"suggest: a full pair to an unborn process",
         b"plan=1
 behaviours=1
 code=3
@@ -152,13 +138,13 @@ run=1
 run=1
 run=1
 ",
-    ));
+    );
 }
 
 // A gone process owns no run, and nothing is in flight.
 fn all_gone() {
-    show::title(b"suggest: all are gone");
-    suggested(show::reached(
+    suggested(
+        b"suggest: all are gone",
         b"plan=1
 behaviours=1
 code=1
@@ -169,19 +155,19 @@ start=1,1
         b"run=1
 run=1
 ",
-    ));
+    );
 }
 
 // Only the run of process 1 would be accepted.
 fn one_run() {
     show::title(b"suggest: one run");
-    suggested(stopping());
+    suggest(stopping());
 }
 
 // Processes 2 and 3 wait, and a signal is in flight from 2 to 3.
 fn one_arrival() {
-    show::title(b"suggest: one arrival");
-    suggested(show::reached(
+    suggested(
+        b"suggest: one arrival",
         b"plan=1
 behaviours=2
 code=4
@@ -199,13 +185,13 @@ start=3,2
         b"run=2
 run=2
 ",
-    ));
+    );
 }
 
 // Process 16 waits for the message that it sent to itself: the last of all steps.
 fn last_process() {
-    show::title(b"suggest: the last process");
-    suggested(show::reached(
+    suggested(
+        b"suggest: the last process",
         b"plan=1
 behaviours=1
 code=4
@@ -219,7 +205,7 @@ start=16,1
         b"run=16
 run=16
 ",
-    ));
+    );
 }
 
 // Of several steps any may be named: it is taken, and its refusal is 0.
@@ -243,8 +229,14 @@ run=5
     ));
 }
 
+// What is suggested where a plan and steps lead.
+fn suggested(name: &[u8], plan: &[u8], steps: &[u8]) {
+    show::title(name);
+    suggest(show::reached(plan, steps));
+}
+
 // The step that is suggested, and its refusal when it is taken.
-fn suggested(n: Node) {
+fn suggest(n: Node) {
     let s = engine::suggest(n);
     match s {
         Suggestion::Unsound => {

@@ -1,6 +1,6 @@
 // Exit signals at a full mailbox, line by line of document 01: only the third, where a note would join, is refused with 24.
+use super::parts;
 use super::show;
-use super::unsound;
 use node::Node;
 use node::Process;
 use node::ProcessNumber;
@@ -24,16 +24,14 @@ fn arrives(name: &[u8], p: Process, x: Signal) {
 }
 
 fn with_signal(p: Process, x: Signal) -> Node {
-    let mut n = unsound::with_process(p);
-    n.mail[0].count = 16;
-    let row = n.flight[16];
-    let more = row.pushed(x);
-    n.flight[16] = more;
+    let mut n = parts::with_process(p);
+    n.mail[0] = parts::messages(16);
+    n.flight[16] = parts::signals(0).pushed(x);
     n
 }
 
 fn trapping() -> Process {
-    unsound::first_process().trapped(true)
+    parts::first_process().trapped(true)
 }
 
 fn linked(p: Process) -> Process {
@@ -58,7 +56,7 @@ fn killed() {
     );
     arrives(
         b"full mailbox: kill",
-        unsound::first_process(),
+        parts::first_process(),
         Signal::Exit(Value::KILL, false),
     );
 }
@@ -81,7 +79,7 @@ fn noted() {
 fn normal() {
     arrives(
         b"full mailbox: normal from another",
-        unsound::first_process(),
+        parts::first_process(),
         Signal::Exit(Value::NORMAL, false),
     );
 }
@@ -90,12 +88,12 @@ fn normal() {
 fn ended() {
     arrives(
         b"full mailbox: an exit",
-        unsound::first_process(),
+        parts::first_process(),
         Signal::Exit(Value::Atom(9), false),
     );
     arrives(
         b"full mailbox: a linked kill",
-        linked(unsound::first_process()),
+        linked(parts::first_process()),
         Signal::Exit(Value::KILL, true),
     );
 }

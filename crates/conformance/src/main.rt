@@ -1,25 +1,25 @@
-// Cases of the rules, each with the listing that document 01 asks for. The file stdout was worked out from the document by hand.
+// Cases that are no folders of tests/cases: nodes made by hand, calls that the program does not make, and texts at their limits. The file
+// stdout was worked out from document 01 by hand.
 mod calls;
 mod codes;
-mod exits;
 mod full;
+mod holds;
 mod limits;
-mod mail;
-mod ops;
+mod lists;
+mod parts;
 mod plays;
-mod refusals;
+mod refused;
 mod show;
+mod texts;
 mod unsound;
 
 fn main() {
-    refusals::all();
-    mail::all();
-    exits::all();
-    ops::all();
     full::all();
     unsound::all();
     codes::all();
     limits::all();
     calls::all();
     plays::all();
+    texts::all();
+    lists::all();
 }

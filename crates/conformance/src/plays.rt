@@ -1,11 +1,11 @@
 // Plays of step records, and plays with the listing: the order of 31, 30, 32 and 20.
-use super::calls;
+use super::calls::counting;
+use super::parts;
 use super::show;
-use super::unsound;
 use node::Node;
 
 pub(crate) fn all() {
-    lent();
+    lent_refused();
     lent_no_kind();
     lent_longest();
     lent_long();
@@ -18,30 +18,86 @@ pub(crate) fn all() {
 }
 
 // Two steps are played, the third is refused, and the fourth is not played.
-fn lent() {
-    show::title(b"records: until one is refused");
+fn lent_refused() {
     let numbers = [256u32, 256, 0, 256];
-    show::played(steps::play_lent(calls::counting(), &numbers));
+    lent(b"records: until one is refused", &numbers);
 }
 
 // A record whose kind is neither 0 nor 1.
 fn lent_no_kind() {
-    show::title(b"records: of no kind");
     let numbers = [256u32, 131328];
-    show::played(steps::play_lent(calls::counting(), &numbers));
+    lent(b"records: of no kind", &numbers);
 }
 
 fn lent_longest() {
-    show::title(b"records: 4,096 steps");
     let numbers = [256u32; 4096];
-    show::played(steps::play_lent(calls::counting(), &numbers));
+    lent(b"records: 4,096 steps", &numbers);
 }
 
 // 32 is looked at before 20 of the first step.
 fn lent_long() {
-    show::title(b"records: 32 before 20");
     let numbers = [0u32; 4097];
-    show::played(steps::play_lent(calls::counting(), &numbers));
+    lent(b"records: 32 before 20", &numbers);
+}
+
+fn lent(name: &[u8], numbers: &[u32]) {
+    show::title(name);
+    show::played(steps::play_lent(counting(), numbers));
+}
+
+// The listing is that of the node behind the steps.
+fn listed() {
+    let numbers = [256u32, 0];
+    let mut out = [b'#'; 100];
+    counted(b"play and list", &numbers, &mut out);
+}
+
+// The listing has 86 bytes, and so has the buffer.
+fn listed_fits() {
+    let numbers = [256u32];
+    let mut out = [b'#'; 86];
+    counted(
+        b"play and list: the buffer is just long enough",
+        &numbers,
+        &mut out,
+    );
+}
+
+// A buffer of 85 bytes is too short: it stays, and so does the node.
+fn listed_short() {
+    let numbers = [256u32];
+    let mut out = [b'#'; 85];
+    counted(b"play and list: 30 leaves the node", &numbers, &mut out);
+    whole(&out);
+}
+
+// 31 is looked at before 30, of a node whose place is past its end.
+fn listed_unsound() {
+    show::title(b"play and list: 31 before 30");
+    let numbers = [256u32];
+    let mut out = [b'#'; 1];
+    told(parts::past_the_end(), &numbers, &mut out);
+    whole(&out);
+}
+
+// 30 is looked at before 32.
+fn listed_long_short() {
+    let numbers = [0u32; 4097];
+    let mut out = [b'#'; 1];
+    counted(b"play and list: 30 before 32", &numbers, &mut out);
+    whole(&out);
+}
+
+// With room for the listing 32 is told, before 20 of the first step.
+fn listed_long() {
+    let numbers = [0u32; 4097];
+    let mut out = [b'#'; 100];
+    counted(b"play and list: 32 before 20", &numbers, &mut out);
+}
+
+fn counted(name: &[u8], numbers: &[u32], out: &mut [u8]) {
+    show::title(name);
+    told(counting(), numbers, out);
 }
 
 // What a play with the listing tells, its listing, and the node that it hands out.
@@ -53,56 +109,8 @@ fn told(n: Node, numbers: &[u32], out: &mut [u8]) {
     show::listed(r.node);
 }
 
-// The listing is that of the node behind the steps.
-fn listed() {
-    show::title(b"play and list");
-    let numbers = [256u32, 0];
-    let mut out = [b'#'; 100];
-    told(calls::counting(), &numbers, &mut out);
-}
-
-// The listing has 86 bytes, and so has the buffer.
-fn listed_fits() {
-    show::title(b"play and list: the buffer is just long enough");
-    let numbers = [256u32];
-    let mut out = [b'#'; 86];
-    told(calls::counting(), &numbers, &mut out);
-}
-
-// A buffer of 85 bytes is too short: it stays, and so does the node.
-fn listed_short() {
-    show::title(b"play and list: 30 leaves the node");
-    let numbers = [256u32];
-    let mut out = [b'#'; 85];
-    told(calls::counting(), &numbers, &mut out);
-    io::write_all(1, &out);
+// All bytes of a buffer, and the end of the line.
+fn whole(out: &[u8]) {
+    io::write_all(1, out);
     io::write_all(1, b"\n");
-}
-
-// 31 is looked at before 30, of a node whose place is past its end.
-fn listed_unsound() {
-    show::title(b"play and list: 31 before 30");
-    let numbers = [256u32];
-    let mut out = [b'#'; 1];
-    told(unsound::with_place(4), &numbers, &mut out);
-    io::write_all(1, &out);
-    io::write_all(1, b"\n");
-}
-
-// 30 is looked at before 32.
-fn listed_long_short() {
-    show::title(b"play and list: 30 before 32");
-    let numbers = [0u32; 4097];
-    let mut out = [b'#'; 1];
-    told(calls::counting(), &numbers, &mut out);
-    io::write_all(1, &out);
-    io::write_all(1, b"\n");
-}
-
-// With room for the listing 32 is told, before 20 of the first step.
-fn listed_long() {
-    show::title(b"play and list: 32 before 20");
-    let numbers = [0u32; 4097];
-    let mut out = [b'#'; 100];
-    told(calls::counting(), &numbers, &mut out);
 }

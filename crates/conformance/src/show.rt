@@ -1,29 +1,24 @@
-// How a case is played and printed.
+// How a case is reached and printed.
 use engine::Played;
 use node::Node;
-
-// A case: its name, and what the program of document 01 prints for the two texts.
-pub(crate) fn case(name: &[u8], plan: &[u8], steps: &[u8]) {
-    title(name);
-    let r = plan::load(plan);
-    if r.number != 0 {
-        two(b"load=", r.number as u64, r.line as u64);
-        return;
-    }
-    let s = schedule::read(steps);
-    if s.number != 0 {
-        two(b"steps=", s.number as u64, s.line as u64);
-        return;
-    }
-    let numbers = s.steps;
-    played(play_of(r.node, &numbers, s.count));
-}
 
 // What a play tells, and the listing.
 pub(crate) fn played(r: Played) {
     one(b"accepted=", r.accepted as u64);
     one(b"refused=", r.refusal as u64);
     listed(r.node);
+}
+
+// A play of `run 1`.
+pub(crate) fn run(n: Node) {
+    let numbers = [256u32];
+    told(n, &numbers);
+}
+
+// What a play tells, in a line.
+pub(crate) fn told(n: Node, numbers: &[u32]) {
+    let r = engine::play(n, numbers);
+    two(b"play=", r.accepted as u64, r.refusal as u64);
 }
 
 // The node that a plan and steps lead to.

@@ -1,4 +1,4 @@
-// Reading a file into a lent buffer, for the programs.
+// Reading a file into a lent buffer.
 ghost use Prim.Native.Nat.{_≤_};
 ghost use lib.ListN.{length};
 

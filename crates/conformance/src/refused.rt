@@ -1,0 +1,70 @@
+// A node that is not sound: what each call says of it. The node is given whole, or as the part that is put anew.
+use super::parts;
+use super::show;
+use engine::Suggestion;
+use node::Mailbox;
+use node::Message;
+use node::Node;
+use node::Op;
+use node::Process;
+use node::ProcessNumber;
+use node::Row;
+use node::Signal;
+use node::Step;
+
+pub(crate) fn whole(name: &[u8], n: Node) {
+    show::title(name);
+    show::run(n);
+    step_run(n);
+    suggestion(n);
+    show::listed(n);
+}
+
+pub(crate) fn with_op(name: &[u8], place: u8, o: Op) {
+    whole(name, parts::with_op(place, o));
+}
+
+pub(crate) fn with_process(name: &[u8], p: Process) {
+    whole(name, parts::with_process(p));
+}
+
+pub(crate) fn with_mail(name: &[u8], m: Mailbox) {
+    whole(name, parts::with_mail(m));
+}
+
+pub(crate) fn with_message(name: &[u8], m: Message) {
+    with_mail(name, parts::messages(0).joined(m));
+}
+
+pub(crate) fn with_row(name: &[u8], at: u8, r: Row) {
+    whole(name, parts::with_row(at, r));
+}
+
+pub(crate) fn with_signal(name: &[u8], at: u8, x: Signal) {
+    with_row(name, at, parts::signals(0).pushed(x));
+}
+
+fn step_run(n: Node) {
+    let s = Step {
+        kind: 0,
+        owner: ProcessNumber(1),
+        from: ProcessNumber(0),
+    };
+    let r = engine::step(n, s);
+    show::one(b"step=", r.refusal as u64);
+}
+
+fn suggestion(n: Node) {
+    let s = engine::suggest(n);
+    match s {
+        Suggestion::Unsound => {
+            io::write_all(1, b"suggest=31\n");
+        }
+        Suggestion::Next(_) => {
+            io::write_all(1, b"suggest=step\n");
+        }
+        Suggestion::Nothing => {
+            io::write_all(1, b"suggest=none\n");
+        }
+    }
+}
