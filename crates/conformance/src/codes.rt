@@ -117,7 +117,11 @@ fn smalls() {
     refused::with_op(b"31 a trap flag of 7", AT_JUMP, with_small(8, 7));
     refused::with_op(b"31 a trap flag of 2", AT_JUMP, with_small(8, 2));
     holds::with_op(b"sound: a trap flag of 1", AT_JUMP, with_small(8, 1));
-    refused::with_op(b"31 a clause of no kind", AT_CLAUSE, with_small(11, NOTE + 1));
+    refused::with_op(
+        b"31 a clause of no kind",
+        AT_CLAUSE,
+        with_small(11, NOTE + 1),
+    );
     holds::with_op(
         b"sound: a clause of the last kind",
         AT_CLAUSE,
