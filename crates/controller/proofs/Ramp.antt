@@ -33,7 +33,7 @@ use Rattle.rules.specs.Receive.{receives, fits}
 use Rattle.rules.specs.Run.{runs, runsLive, runsOp, closes}
 use Rattle.rules.specs.Steps.{Action, run, arrive, meaning, Outcome, play, played, step, rule, ready, commit, incoming, decide, at, numbered, ownerBorn, signalWaits, pairHasRoom, numberFree}
 use Rattle.rules.proofs.Sample.{opOf, int, sample, started}
-use Rattle.actions.specs.Numbers.{decode, actionOf}
+use Rattle.actions.specs.Numbers.{encode, decode, actionOf}
 use Rattle.listing.specs.Listing.{listingOf}
 use Rattle.listing.proofs.Examples.{sample-listing}
 use Rattle.plan.specs.Plans.{nodeOf, loadOf}
@@ -212,7 +212,7 @@ unfolding sample-plan
 sample-loaded = loaded-sample ∙ ap (λ (n : Node). record { number = 0; line = 0; node = n }) node-started
 
 sample-read : (scheduleOf sample-steps .number ≡ 0) × (steps (scheduleOf sample-steps) ≡ sampleActions)
-unfolding sample-steps actionOf decode meaning scheduleOf ofLines readLines firstMalformed stepsOf refusedText acceptedSteps stepOf arrivalOf packedOf linesOf lastApart lineThen split inFront fieldsOf equal startsWith numberOf numberForm unsignedForm unsigned negative isDigit numberValue decimal rangedOf
+unfolding sample-steps actionOf decode meaning scheduleOf ofLines readLines firstMalformed stepsOf refusedText acceptedSteps stepOf arrivalOf packedOf encode linesOf lastApart lineThen split inFront fieldsOf equal startsWith numberOf numberForm unsignedForm unsigned negative isDigit numberValue decimal rangedOf
 sample-read = (refl, refl)
 
 sample-count : (play started sampleActions .accepted ≡ 5) × (play started sampleActions .refusal ≡ 0)
