@@ -92,15 +92,15 @@ module _ (k : ℕ) where
   of-kind (yes h) d =
       let a : eqb (k / 65536) 1 ≡ false = rw h in
       let known : not (numbered (actionOf k)) ≡ false → So (isNumber i) = λ ok. rw (kind-run h) at (not-false (numbered (actionOf k)) ok) in
-      record { bad = refl; action = λ ok. kind-run h ∙ rw a; at = λ ok. at-here (known ok); row = λ ok arr. absurd (false≢true (sym a ∙ arr)) }
+      record { bad = refl; action = λ ok. kind-run h ∙ rw a; at = λ ok. rw (not-false (numbered (actionOf k)) ok) (at-here (known ok)); row = λ ok arr. absurd (false≢true (sym a ∙ arr)) }
   of-kind (no g) (yes h) =
       let a : eqb (k / 65536) 1 ≡ true = rw h in
       let known : not (numbered (actionOf k)) ≡ false → So (isNumber i) × So (isNumber j) = λ ok. parts (isNumber i) (isNumber j) (rw (kind-arrive h) at (not-false (numbered (actionOf k)) ok)) in
       record {
         bad = refl;
         action = λ ok. kind-arrive h ∙ rw a;
-        at = λ ok. at-here (known ok .0);
-        row = λ ok arr. let x = number-bounds i (known ok .0) in let y = number-bounds j (known ok .1) in omega (arith, x, y);
+        at = λ ok. rw (not-false (numbered (actionOf k)) ok) (at-here (known ok .0));
+        row = λ ok arr. let x = number-bounds i (known ok .0) in let y = number-bounds j (known ok .1) in rw (not-false (numbered (actionOf k)) ok) (omega (arith, x, y));
       }
   of-kind (no g) (no h) =
       let bad : not (numbered (actionOf k)) ≡ false → ⊥ = λ ok. false≢true (sym ok ∙ ap not (none-numbered (kind-none (omega (arith, g, h))))) in

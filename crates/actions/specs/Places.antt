@@ -3,9 +3,10 @@
 --   processAt i         process i, and its mailbox
 --   rowAt j i           the row of signals from j to i
 --   behaviourAt b       the length of behaviour b
---   opAt b place more   op `place + more` of behaviour b
---   decodedOf k         what the number k of a step says: whether a process number in it is none, its action, and where its parts stand
-use mathlib.Core.Bool.{not}
+--   opAt b place        the op at a place of behaviour b
+--   decodedOf k         what the number k of a step says: whether a process number in it is none, its action, and where its parts stand;
+--                       0 where a process number is none
+use mathlib.Core.Bool.{cond, not}
 use Prim.Native.Nat.{ℕ, _+_, _-_, _*_, _/_, _%_, min}
 use lib.Dec.{eqb}
 use Rattle.rules.specs.Steps.{numbered}
@@ -21,8 +22,8 @@ rowAt j i = 16 * processAt j + processAt i
 abbrev pub behaviourAt : ℕ → ℕ
 behaviourAt b = min (b - 1) 7
 
-abbrev pub opAt : ℕ → ℕ → ℕ → ℕ
-opAt b place more = min (32 * behaviourAt b + place + more) 255
+abbrev pub opAt : ℕ → ℕ → ℕ
+opAt b place = min (32 * behaviourAt b + place) 255
 
 unfoldable pub decodedOf : ℕ → Decoded
 decodedOf k = record {
@@ -30,6 +31,6 @@ decodedOf k = record {
   arrives = eqb (k / 65536) 1;
   owner = record { 0 = k / 256 % 256 };
   from = record { 0 = k % 256 };
-  at = processAt (k / 256 % 256);
-  row = rowAt (k % 256) (k / 256 % 256);
+  at = cond (numbered (actionOf k)) (processAt (k / 256 % 256)) 0;
+  row = cond (numbered (actionOf k)) (rowAt (k % 256) (k / 256 % 256)) 0;
 }

@@ -2,13 +2,11 @@
 ghost use mathlib.Core.Bool.{not};
 ghost use mathlib.Core.Path.{_≡_};
 ghost use Prim.Native.Nat.{_<_, min};
-ghost use Rattle.rules.specs.Steps.{isUnborn, meaning, numbered};
+ghost use Rattle.rules.specs.Steps.{meaning, numbered};
 ghost use Rattle.actions.specs.Numbers.{encode, decode};
 ghost use Rattle.actions.specs.Places.{processAt, rowAt, behaviourAt, opAt, decodedOf};
 use node::BehaviourNumber;
-use node::Process;
 use node::ProcessNumber;
-use node::Stage;
 use node::Step;
 use node::is_number;
 
@@ -57,29 +55,17 @@ pub fn behaviour_index(b: BehaviourNumber) -> usize
     7
 }
 
-// Where op `place + more` of behaviour b stands.
-pub fn op_index(b: BehaviourNumber, place: u8, more: u8) -> usize
-    ensures { λ r. ⌜ r ≡ opAt (b .0) place more ⌝ }
+// Where the op at a place of behaviour b stands.
+pub fn op_index(b: BehaviourNumber, place: u8) -> usize
+    ensures { λ r. ⌜ r ≡ opAt (b .0) place ⌝ }
     ensures { λ r. ⌜ r < 256 ⌝ }
 {
     let w = behaviour_index(b);
-    let x = 32 * w + (place as usize) + (more as usize);
+    let x = 32 * w + (place as usize);
     if x < 256 {
         return x;
     }
     255
-}
-
-pub fn is_unborn(p: Process) -> bool
-    ensures { λ r. ⌜ r ≡ isUnborn (p .stage) ⌝ }
-{
-    let stage = p.stage;
-    match stage {
-        Stage::Unborn => true,
-        Stage::Live => false,
-        Stage::Closing => false,
-        Stage::Gone => false,
-    }
 }
 
 // The number of a step, which stands for that step.
@@ -92,7 +78,7 @@ pub fn encode(s: Step) -> u32
     (s.kind as u32) * 65536 + (owner.0 as u32) * 256 + (from.0 as u32)
 }
 
-// The step of a number, as its action.
+// The step of a number, as its action. No index is made of a number that is none.
 pub fn decode(s: u32) -> Decoded
     ensures { λ r. ⌜ r ≡ decodedOf s ⌝ }
     ensures { λ r. ⌜ (r .at < 16) × (r .row < 256) ⌝ }
@@ -100,16 +86,23 @@ pub fn decode(s: u32) -> Decoded
     let kind = s / 65536;
     let owner = ProcessNumber((s / 256 % 256) as u8);
     let from = ProcessNumber((s % 256) as u8);
-    let bad = is_unnumbered(kind, owner, from);
-    let at = process_index(owner);
-    let row = row_index(from, owner);
+    if is_unnumbered(kind, owner, from) {
+        return Decoded {
+            bad: true,
+            arrives: kind == 1,
+            owner,
+            from,
+            at: 0,
+            row: 0,
+        };
+    }
     Decoded {
-        bad: bad,
+        bad: false,
         arrives: kind == 1,
-        owner: owner,
-        from: from,
-        at: at,
-        row: row,
+        owner,
+        from,
+        at: process_index(owner),
+        row: row_index(from, owner),
     }
 }
 

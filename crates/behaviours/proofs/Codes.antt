@@ -46,7 +46,8 @@ on-clause-at n ops k t h =
     ap (λ (x : Instruction). eqb (x .number) clauseOp) (getD-in (codeIn n ops k) t noInstruction (instruction noOp) l ∙ code-at n ops k t h)
 
 -- one operand after the other, for a test q of a target
-one-kind : (o : Op) (q : ℕ → Bool) (kind : OperandKind) (a : Bool) → ((not (isKind PlaceT kind) || q (operand o kind .number)) && cond (not a) (q (o .target)) true) ≡ cond (not (not (isKind PlaceT kind) && a)) (q (o .target)) true
+one-kind : (o : Op) (q : ℕ → Bool) (kind : OperandKind) (a : Bool) → ((not (isKind PlaceT kind) || q (operand o kind .number)) && cond (not a) (q (o .target)) true)
+    ≡ cond (not (not (isKind PlaceT kind) && a)) (q (o .target)) true
 unfolding operand
 one-kind o q NoOperand a = refl
 one-kind o q RegisterR a = refl
@@ -64,7 +65,8 @@ one-kind o q PlaceT a = twice a (q (o .target))
     twice true true = refl
     twice false true = refl
 
-all-kinds : (o : Op) (q : ℕ → Bool) (ks : List OperandKind) → allOf (λ (kind : OperandKind). not (isKind PlaceT kind) || q (operand o kind .number)) ks ≡ cond (not (allOf (λ (kind : OperandKind). not (isKind PlaceT kind)) ks)) (q (o .target)) true
+all-kinds : (o : Op) (q : ℕ → Bool) (ks : List OperandKind) → allOf (λ (kind : OperandKind). not (isKind PlaceT kind) || q (operand o kind .number)) ks
+    ≡ cond (not (allOf (λ (kind : OperandKind). not (isKind PlaceT kind)) ks)) (q (o .target)) true
 all-kinds o q [] = refl
 all-kinds o q (kind ∷ ks) =
     ap (λ (b : Bool). (not (isKind PlaceT kind) || q (operand o kind .number)) && b) (all-kinds o q ks) ∙ one-kind o q kind (allOf (λ (k : OperandKind). not (isKind PlaceT k)) ks)

@@ -2,11 +2,13 @@
 --   of-texts                                   what is made of a node and steps, made of what was loaded and read
 --   Turn rounds before x i y                   i of the rounds are done, and the answer is y
 --   turn-first turn-next turn-last             it holds at first, is kept by a round that answers x, and gives the answer at the end
---   Said rounds n i s                          i of the rounds are done, and s of them found n sound
+--   Said rounds b i s                          i of the rounds are done, and s of them said b
 --   said-first said-more said-same said-last   it holds at first, is kept by each round, and gives the answer at the end
-use mathlib.Core.Bool.{Bool, true, false, cond}
+--   says-stuck                                 a right suggestion says that there is no step exactly where there is none
+use mathlib.Core.Bool.{Bool, true, false, cond, not}
 use mathlib.Core.List.{List}
-use mathlib.Core.Path.{_≡_, refl, _∙_, ap}
+use mathlib.Core.Option.{Option, none, some}
+use mathlib.Core.Path.{_≡_, refl, sym, _∙_, ap}
 use Prim.Native.Nat.{ℕ, _+_, _≤_, _<_}
 use native.Mathlib.Omega.{arith}
 use borrow.Author.Tests.{ne-eqb}
@@ -14,13 +16,19 @@ use Rattle.controller.specs.Program.{steps}
 use Rattle.node.specs.declared.Node.{Node}
 use Rattle.plan.specs.declared.Loaded.{Loaded}
 use Rattle.plan.specs.Plans.{loadOf}
+use Rattle.node.specs.Lists.{allOf}
+use Rattle.rules.specs.Answers.{Answer, refused, done}
 use Rattle.rules.specs.Nodes.{sound}
 use Rattle.rules.specs.Steps.{Action}
 use Rattle.schedule.specs.declared.Schedule.{Schedule}
 use Rattle.schedule.specs.Reading.{scheduleOf}
-use Rattle.bench_c.specs.Rounds.{after, soundIn}
+use Rattle.rules.specs.Suggest.{Suggests, acceptable, possible}
+use Rattle.rules.proofs.All.{both, parts}
+use Rattle.rules.proofs.Suggest.{none-right}
+use Rattle.bench_c.specs.Rounds.{after, saysNone, stuck}
 
-pub of-texts : {A : Type 0} (f : Node → List Action → A) (p q : List ℕ) {l : Loaded} {s : Schedule} → l ≡ loadOf p → s ≡ scheduleOf q → f (l .node) (steps s) ≡ f (loadOf p .node) (steps (scheduleOf q))
+pub of-texts : {A : Type 0} (f : Node → List Action → A) (p q : List ℕ) {l : Loaded} {s : Schedule} → l ≡ loadOf p → s ≡ scheduleOf q → f (l .node) (steps s)
+    ≡ f (loadOf p .node) (steps (scheduleOf q))
 of-texts f p q loaded read = rw (loaded, read)
 
 -- ---- the last answer
@@ -44,36 +52,46 @@ module _ {A : Type 0} {rounds : ℕ} {before x : A} where
         let all : i ≡ rounds = omega (arith, h, t .within) in
         t .last ∙ ap (λ (k : ℕ). after k before x) all
 
--- ---- how often a node was sound; b is whether it is
+-- ---- how often a test held; b is whether it does
 
-pub record Said (rounds : ℕ) (n : Node) (i s : ℕ) : Type 0 where
+pub record Said (rounds : ℕ) (b : Bool) (i s : ℕ) : Type 0 where
   pub within : i ≤ rounds
   pub fewer : s ≤ i
-  pub said : s ≡ soundIn i n
+  pub said : s ≡ cond b i 0
 
-module _ {rounds : ℕ} {n : Node} where
-  pub said-first : Said rounds n 0 0
-  unfolding soundIn
-  said-first = record { within = omega arith; fewer = omega arith; said = none (sound n) }
+module _ {rounds : ℕ} {b : Bool} where
+  pub said-first : Said rounds b 0 0
+  said-first = record { within = omega arith; fewer = omega arith; said = zero b }
     where
-      none : (b : Bool) → let z : ℕ = 0 in z ≡ cond b 0 0
-      none true = refl
-      none false = refl
+      zero : (b : Bool) → let z : ℕ = 0 in z ≡ cond b 0 0
+      zero true = refl
+      zero false = refl
 
-  module _ {i s : ℕ} (t : Said rounds n i s) {b : Bool} (is : b ≡ sound n) where
-    pub said-more : i < rounds → b ≡ true → Said rounds n (i + 1) (s + 1)
-    unfolding soundIn
+  module _ {i s : ℕ} (t : Said rounds b i s) {c : Bool} (is : c ≡ b) where
+    pub said-more : i < rounds → c ≡ true → Said rounds b (i + 1) (s + 1)
     said-more h e =
         let z : s ≡ i = rw (← is, e) at (t .said) in
         record { within = omega (arith, h); fewer = omega (arith, t .fewer); said = rw (← is, e) (omega (arith, z)) }
 
-    pub said-same : i < rounds → b ≡ false → Said rounds n (i + 1) s
-    unfolding soundIn
+    pub said-same : i < rounds → c ≡ false → Said rounds b (i + 1) s
     said-same h e =
         let z : s ≡ 0 = rw (← is, e) at (t .said) in
         record { within = omega (arith, h); fewer = omega (arith, t .fewer); said = rw (← is, e) z }
 
-  pub said-last : {i s : ℕ} → Said rounds n i s → rounds ≤ i → s ≡ soundIn rounds n
+  pub said-last : {i s : ℕ} → Said rounds b i s → rounds ≤ i → s ≡ cond b rounds 0
   said-last {i} {s} t h =
       let all : i ≡ rounds = omega (arith, h, t .within) in
-      t .said ∙ ap (λ (k : ℕ). soundIn k n) all
+      t .said ∙ ap (λ (k : ℕ). cond b k 0) all
+
+-- ---- what a suggestion says: that there is no step exactly where there is none
+
+pub says-stuck : (n : Node) (s : Answer (Option Action)) → Suggests n s → saysNone s ≡ stuck n
+says-stuck n (refused k) h = rw (h .1) refl
+says-stuck n (done none) h = sym (both (h .0) (h .1))
+says-stuck n (done (some a)) h = go (stuck n) refl
+  where
+    go : (b : Bool) → stuck n ≡ b → false ≡ b
+    go false e = refl
+    go true e =
+        let p = parts (sound n) (allOf (λ a. not (acceptable n a)) possible) e in
+        sym (none-right n p a) ∙ h

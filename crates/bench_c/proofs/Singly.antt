@@ -13,7 +13,7 @@ use lib.ListN.{length, getD, drop, drop-of-length-le}
 use Rattle.actions.specs.Numbers.{decode, actionOf}
 use Rattle.engine.specs.declared.Stepped.{Stepped}
 use Rattle.engine.specs.Answers.{steppedBy}
-use Rattle.listing_lines.proofs.Laws.{drop-next}
+use Rattle.text.proofs.Parts.{drop-next}
 use Rattle.node.specs.declared.Node.{Node}
 use Rattle.node.specs.declared.Step.{Step}
 use Rattle.rules.specs.Steps.{Action, meaning, step}

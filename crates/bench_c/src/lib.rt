@@ -3,7 +3,7 @@ ghost use mathlib.Core.Path.{_≡_};
 ghost use Rattle.listing.specs.Answers.{listTold, listShown};
 ghost use Rattle.plan.specs.Plans.{loadOf};
 ghost use Rattle.schedule.specs.Reading.{scheduleOf};
-ghost use Rattle.bench_c.specs.Rounds.{after, playedBy, reachedBy, soundIn, acceptedSingly};
+ghost use Rattle.bench_c.specs.Rounds.{after, playedBy, reachedBy, soundIn, stuckIn, acceptedSingly};
 use node::Node;
 
 mod rounds;
@@ -44,6 +44,14 @@ pub extern "C" fn bench_sound(plan: &[u8], steps: &[u8], rounds: usize) -> usize
     ensures { λ r. ⌜ r ≡ soundIn rounds (reachedBy (now (plan .entry)) (now (steps .entry))) ⌝ }
 {
     rounds::sounds(reached(plan, steps), rounds)
+}
+
+// How many of the rounds are told that no step would be accepted on the node that the two texts lead to.
+#[no_mangle]
+pub extern "C" fn bench_suggest(plan: &[u8], steps: &[u8], rounds: usize) -> usize
+    ensures { λ r. ⌜ r ≡ stuckIn rounds (reachedBy (now (plan .entry)) (now (steps .entry))) ⌝ }
+{
+    rounds::suggests(reached(plan, steps), rounds)
 }
 
 // How many of the steps are accepted, by a play of them all.

@@ -2,9 +2,11 @@
 ghost use mathlib.Core.List.{map};
 ghost use mathlib.Core.Path.{_≡_};
 ghost use Rattle.actions.specs.Numbers.{actionOf};
+ghost use Rattle.engine.specs.Answers.{suggestionOf};
 ghost use Rattle.listing.specs.Answers.{listTold, listShown};
 ghost use Rattle.rules.specs.Steps.{play};
-ghost use Rattle.bench_c.specs.Rounds.{after, soundIn, singly};
+ghost use Rattle.bench_c.specs.Rounds.{after, soundIn, saysNone, stuckIn, singly};
+use engine::Suggestion;
 use node::Node;
 
 pub(crate) fn sounds(n: Node, rounds: usize) -> usize
@@ -14,6 +16,20 @@ pub(crate) fn sounds(n: Node, rounds: usize) -> usize
     let mut i: usize = 0;
     while i < rounds {
         if soundness::sound(n) {
+            said += 1;
+        }
+        i += 1;
+    }
+    said
+}
+
+pub(crate) fn suggests(n: Node, rounds: usize) -> usize
+    ensures { λ r. ⌜ r ≡ stuckIn rounds n ⌝ }
+{
+    let mut said: usize = 0;
+    let mut i: usize = 0;
+    while i < rounds {
+        if says_none(engine::suggest(n)) {
             said += 1;
         }
         i += 1;
@@ -71,6 +87,16 @@ pub(crate) fn lists(n: Node, out: &mut [u8], rounds: usize) -> usize
         i += 1;
     }
     last
+}
+
+fn says_none(s: Suggestion) -> bool
+    ensures { λ r. ⌜ r ≡ saysNone (suggestionOf s) ⌝ }
+{
+    match s {
+        Suggestion::Unsound => false,
+        Suggestion::Next(step) => false,
+        Suggestion::Nothing => true,
+    }
 }
 
 // One round of `steps_singly`.

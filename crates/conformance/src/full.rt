@@ -1,5 +1,6 @@
 // Exit signals at a full mailbox, line by line of document 01: only the third, where a note would join, is refused with 24.
 use super::parts;
+use super::parts::SECOND_TO_FIRST;
 use super::show;
 use node::Node;
 use node::Process;
@@ -24,10 +25,8 @@ fn arrives(name: &[u8], p: Process, x: Signal) {
 }
 
 fn with_signal(p: Process, x: Signal) -> Node {
-    let mut n = parts::with_process(p);
-    n.mail[0] = parts::messages(16);
-    n.flight[16] = parts::signals(0).pushed(x);
-    n
+    let n = parts::with_messages(parts::with_process(p), 16);
+    parts::with_signal(n, SECOND_TO_FIRST, x)
 }
 
 fn trapping() -> Process {

@@ -6,7 +6,6 @@ use super::parts::FIRST_TO_SECOND;
 use super::parts::LAST_TO_ITSELF;
 use super::parts::SECOND_TO_ITSELF;
 use super::refused;
-use node::Mailbox;
 use node::Message;
 use node::Node;
 use node::Process;
@@ -60,12 +59,12 @@ fn with_last(number: u8) -> Node {
 fn mailboxes() {
     refused::with_message(b"31 a message p0", Message::Plain(parts::pid(0)));
     holds::with_message(b"sound: a message p16", Message::Plain(parts::pid(16)));
-    refused::with_mail(b"31 the last of sixteen messages", full(17));
-    holds::with_mail(b"sound: sixteen messages", full(16));
+    refused::whole(b"31 the last of sixteen messages", full(17));
+    holds::whole(b"sound: sixteen messages", full(16));
 }
 
-fn full(last: u8) -> Mailbox {
-    parts::messages(15).joined(Message::Plain(parts::pid(last)))
+fn full(last: u8) -> Node {
+    parts::with_message(parts::started(), 15, Message::Plain(parts::pid(last)))
 }
 
 fn notes() {
@@ -84,10 +83,9 @@ fn notes() {
 }
 
 fn rows() {
-    holds::with_row(
+    holds::whole(
         b"sound: four signals in flight",
-        FIRST_TO_ITSELF,
-        parts::signals(4),
+        parts::with_signals(parts::started(), FIRST_TO_ITSELF, 4),
     );
     refused::with_signal(
         b"31 a signal with p0",
@@ -186,7 +184,5 @@ fn unheld_closing() {
 }
 
 fn closing_with_mail() -> Node {
-    let mut n = parts::with_process(ended(16));
-    n.mail[0] = parts::messages(17);
-    n
+    parts::with_messages(parts::with_process(ended(16)), 17)
 }

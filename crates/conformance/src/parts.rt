@@ -1,13 +1,16 @@
 // A started node, its parts, and the node with one of them put anew.
 use super::show;
 use node::BehaviourNumber;
-use node::Mailbox;
+use node::Cell;
+use node::Message;
 use node::Node;
 use node::Op;
 use node::Process;
 use node::ProcessNumber;
-use node::Row;
+use node::Signal;
+use node::Slot;
 use node::Value;
+use node::risen;
 
 // The ops of the started node's one behaviour, by their places.
 pub(crate) const AT_RECV: u8 = 0;
@@ -20,6 +23,8 @@ pub(crate) const AT_JUMP: u8 = 2;
 pub(crate) const FIRST_TO_ITSELF: u8 = 0;
 
 pub(crate) const FIRST_TO_SECOND: u8 = 1;
+
+pub(crate) const SECOND_TO_FIRST: u8 = 16;
 
 pub(crate) const SECOND_TO_ITSELF: u8 = 17;
 
@@ -53,15 +58,30 @@ pub(crate) fn with_process(p: Process) -> Node {
     n
 }
 
-pub(crate) fn with_mail(m: Mailbox) -> Node {
-    let mut n = started();
-    n.mail[0] = m;
+// So many messages i0 in the mailbox of process 1: a slot that nothing was put in holds one.
+pub(crate) fn with_messages(mut n: Node, count: u8) -> Node {
+    n.waiting[0] = count;
     n
 }
 
-pub(crate) fn with_row(at: u8, r: Row) -> Node {
-    let mut n = started();
-    n.flight[at as usize] = r;
+// So many messages i0 in the mailbox of process 1, and m behind them.
+pub(crate) fn with_message(mut n: Node, before: u8, m: Message) -> Node {
+    n.slots[before as usize] = Slot { message: m };
+    n.waiting[0] = risen(before);
+    n
+}
+
+// So many signals msg(i0) in a row: a cell that nothing was put in holds one.
+pub(crate) fn with_signals(mut n: Node, row: u8, count: u8) -> Node {
+    n.counts[row as usize] = count;
+    n
+}
+
+// One signal in a row.
+pub(crate) fn with_signal(mut n: Node, row: u8, x: Signal) -> Node {
+    let k = row as usize;
+    n.cells[4 * k] = Cell { signal: x };
+    n.counts[k] = 1;
     n
 }
 
@@ -89,18 +109,4 @@ pub(crate) fn with_register(r: u8, number: u8) -> Process {
 
 pub(crate) fn linked(number: u8) -> Process {
     first_process().linked(ProcessNumber(number))
-}
-
-// So many messages i0.
-pub(crate) fn messages(count: u8) -> Mailbox {
-    let mut m = Mailbox::empty();
-    m.count = count;
-    m
-}
-
-// So many signals msg(i0).
-pub(crate) fn signals(count: u8) -> Row {
-    let mut r = Row::empty();
-    r.count = count;
-    r
 }

@@ -18,11 +18,13 @@ pub(crate) fn all() {
 fn blank() {
     let r = plan::load(b"plan=2\n");
     let n = r.node;
+    // Here, since further from the load the prover's search does not find that it is a byte.
+    let length = n.lens[0] as u64;
     let op = n.ops[0];
     io::write_all(1, b"blank node ");
     io::print_decimal(1, n.count as u64);
     io::write_all(1, b" ");
-    io::print_decimal(1, n.lens[0] as u64);
+    io::print_decimal(1, length);
     show::two(b" ", op.number as u64, op.r as u64);
 }
 

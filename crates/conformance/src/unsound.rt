@@ -9,7 +9,6 @@ use super::parts::FIRST_TO_SECOND;
 use super::refused;
 use super::show;
 use engine::Played;
-use node::Mailbox;
 use node::Message;
 use node::Node;
 use node::ProcessNumber;
@@ -84,7 +83,10 @@ fn registers() {
 
 // A mailbox has at most 16 messages, each of sound numbers.
 fn mailboxes() {
-    refused::with_mail(b"31 seventeen messages", parts::messages(17));
+    refused::whole(
+        b"31 seventeen messages",
+        parts::with_messages(parts::started(), 17),
+    );
     refused::with_message(b"31 a message p17", Message::Plain(parts::pid(17)));
     refused::with_message(
         b"31 a note from 0",
@@ -94,10 +96,9 @@ fn mailboxes() {
 
 // A pair has at most 4 signals, each of sound numbers.
 fn flights() {
-    refused::with_row(
+    refused::whole(
         b"31 five signals in flight",
-        FIRST_TO_ITSELF,
-        parts::signals(5),
+        parts::with_signals(parts::started(), FIRST_TO_ITSELF, 5),
     );
     refused::with_signal(
         b"31 a signal with p17",
@@ -167,7 +168,7 @@ fn sound_flights() {
 // What stands in the record where document 01's node has nothing is not looked at.
 fn sound_leftovers() {
     holds::whole(b"sound: a place of an unborn process", with_unborn());
-    holds::with_mail(b"sound: a slot past the count", with_leftover());
+    holds::whole(b"sound: a slot past the count", with_leftover());
 }
 
 fn with_unborn() -> Node {
@@ -176,8 +177,7 @@ fn with_unborn() -> Node {
     n
 }
 
-fn with_leftover() -> Mailbox {
-    let mut m = parts::messages(0).joined(Message::Note(ProcessNumber(0), Value::KILL));
-    m.count = 0;
-    m
+fn with_leftover() -> Node {
+    let note = Message::Note(ProcessNumber(0), Value::KILL);
+    parts::with_messages(parts::with_message(parts::started(), 0, note), 0)
 }

@@ -14,11 +14,13 @@ use lib.ListN.{length, drop, length-append}
 use Rattle.engine.specs.declared.Played.{Played as Answered}
 use Rattle.engine.specs.Answers.{playedOf}
 use Rattle.listing.specs.declared.Listed.{Listed}
-use Rattle.listing.specs.Answers.{outputShort, refusedWith, told, shown}
-use Rattle.listing.specs.Listing.{listingOf}
+use Rattle.listing.specs.Answers.{outputShort, refusedWith, told, shown, knownTold, knownShown}
+use Rattle.listing.proofs.Listings.{list-known}
+use Rattle.listing.specs.Listing.{listingOf, longest}
 use Rattle.node.specs.declared.Node.{Node}
 use Rattle.plan.specs.declared.Loaded.{Loaded}
 use Rattle.plan.specs.Plans.{loadOf}
+use Rattle.rules.proofs.Commits.{play-sound}
 use Rattle.rules.proofs.Refusals.{told-31, not-told-31}
 use Rattle.rules.specs.Nodes.{sound}
 use Rattle.rules.specs.Steps.{Action, Outcome, play}
@@ -65,12 +67,15 @@ module _ (n : Node) (l : List Action) (o : List ℕ) (r : Answered) (plays : pla
   unfolding playedListed playedShown
   listed-unsound h = let u = told-31 n l (sym refusal-is ∙ h) in (rw u, rw u)
 
-  module _ (other : r .refusal ≡ 31 → ⊥) (x : Listed) (m : List ℕ) (lists : (x ≡ told o (listingOf (r .node))) × (m ≡ shown o (listingOf (r .node)))) where
+  module _ (other : r .refusal ≡ 31 → ⊥) (x : Listed) (m : List ℕ) (known : (x ≡ knownTold longest o (listingOf (r .node))) × (m ≡ knownShown longest o (listingOf (r .node)))) where
     sounds : sound n ≡ true
     sounds = not-told-31 n l (λ e. other (refusal-is ∙ e))
 
     node-is : r .node ≡ play n l .node
     node-is = ap (λ (y : Outcome). y .node) plays
+
+    lists : (x ≡ told o (listingOf (r .node))) × (m ≡ shown o (listingOf (r .node)))
+    lists = list-known (r .node) (rw node-is (play-sound n l sounds)) o known
 
     shown-is : m ≡ playedShown n l o
     unfolding playedShown

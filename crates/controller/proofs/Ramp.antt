@@ -4,8 +4,9 @@
 use mathlib.Core.Bool.{Bool, true, false}
 use mathlib.Core.List.{List, [], _∷_, _++_, map}
 use mathlib.Core.Path.{_≡_, refl, _∙_, ap}
-use Prim.Native.Nat.{ℕ}
-use lib.ListN.{set, replicate}
+use Prim.Native.Nat.{ℕ, _*_}
+use lib.ListN.{length, set, replicate}
+use lib.Seq.{sets}
 use Rattle.node.specs.declared.Message.{Message}
 use Rattle.node.specs.declared.Message.the-variants.{Plain, Note}
 use Rattle.node.specs.declared.Node.{Node}
@@ -18,12 +19,13 @@ use Rattle.node.specs.declared.Stage.the-variants.{Live, Closing, Gone}
 use Rattle.node.specs.declared.Value.{Value}
 use Rattle.node.specs.declared.Value.the-variants.{Atom}
 use Rattle.node.specs.Lists.{firsts}
-use Rattle.node.specs.Mailboxes.{noMessage, emptyMailbox, messages, joined, without, emptied}
+use Rattle.node.specs.Blocks.{changed, joined, left, popped, emptied}
+use Rattle.node.specs.Mailboxes.{noMessage, messages, slotOf}
 use Rattle.node.specs.Nodes.{pair}
 use Rattle.node.specs.Ops.{stopOp, kindsOf}
 use Rattle.node.specs.Processes.{unborn, fresh, register, withRegister, moved, advanced, trapped, linksTo, linked, unlinked, ended, gone, withPlace}
 use Rattle.node.specs.Sets.{noPeers, bitsOf, has, withPeer, withoutPeer, lowestPeer}
-use Rattle.node.specs.Rows.{noSignal, emptyRow, signals, oldest, pushed, popped}
+use Rattle.node.specs.Rows.{noSignal, signals, cellOf}
 use Rattle.node.specs.Values.{intZero, normal, kill, killed, badarith, pid, isNumber, fitsInt, intKind, atomKind, sameValue}
 use Rattle.node.specs.Texts.{bytes}
 use Rattle.rules.specs.Arrive.{arrives, exits}
@@ -31,7 +33,7 @@ use Rattle.rules.specs.Behaviours.{operand, instruction, operandInRange, inRang
 use Rattle.rules.specs.Nodes.{Sound, sound, shaped, viewSound, view, behavioursOf, code, setOf, standing, runningSound, rowSound}
 use Rattle.rules.specs.Receive.{receives, fits}
 use Rattle.rules.specs.Run.{runs, runsLive, runsOp, closes}
-use Rattle.rules.specs.Steps.{Action, run, arrive, meaning, Outcome, play, played, step, rule, ready, commit, incoming, decide, at, numbered, ownerBorn, signalWaits, pairHasRoom, numberFree}
+use Rattle.rules.specs.Steps.{Action, run, arrive, meaning, Outcome, play, played, step, rule, ready, commit, incoming, decide, numbered, ownerBorn, signalWaits, pairHasRoom, numberFree}
 use Rattle.rules.proofs.Sample.{opOf, int, sample, started}
 use Rattle.actions.specs.Numbers.{encode, decode, actionOf}
 use Rattle.listing.specs.Listing.{listingOf}
@@ -62,12 +64,24 @@ world p ms j i xs = record {
   lens = 1 ∷ 1 ∷ 3 ∷ 1 ∷ replicate 4 0;
   ops = ramp-ops;
   processes = p ∷ fresh (record { 0 = 1 }) intZero ∷ replicate 14 unborn;
-  mail = record { slots = firsts noMessage 16 (map (λ (m : Message). record { message = m }) ms); count = count ms } ∷ replicate 15 emptyMailbox;
-  flight = set (replicate 256 emptyRow) (pair j i) (record { cells = firsts noSignal 4 (map (λ (x : Signal). record { signal = x }) xs); count = count xs });
+  waiting = length ms ∷ replicate 15 0;
+  slots = firsts noMessage 256 (map slotOf ms);
+  counts = set (replicate 256 0) (pair j i) (length xs);
+  cells = sets (replicate 1024 noSignal) (4 * pair j i) (map cellOf xs);
 }
-  where
-    count : {A : Type 0} → List A → ℕ
-    count = lib.ListN.length
+
+-- a node whose slot k still holds message x, which its count no longer reaches
+holding : ℕ → Message → Node → Node
+holding k x n = record {
+  count = n .count;
+  lens = n .lens;
+  ops = n .ops;
+  processes = n .processes;
+  waiting = n .waiting;
+  slots = set (n .slots) k (slotOf x);
+  counts = n .counts;
+  cells = n .cells;
+}
 
 -- process 1 in behaviour b, with r0 = v, r1 = w, the trap flag and the links
 rower : ℕ → Value → Value → Bool → Peers → Process
@@ -78,8 +92,8 @@ closed : Value → Value → Bool → Peers → Value → Process
 closed v w f links reason = record { stage = Closing; behaviour = record { 0 = 1 }; place = 0; r0 = v; r1 = w; r2 = intZero; r3 = intZero; trap = f; links = links; reason = reason }
 
 -- process 1, gone
-left : Process
-left = record { stage = Gone; behaviour = record { 0 = 1 }; place = 0; r0 = intZero; r1 = intZero; r2 = intZero; r3 = intZero; trap = false; links = noPeers; reason = normal }
+over : Process
+over = record { stage = Gone; behaviour = record { 0 = 1 }; place = 0; r0 = intZero; r1 = intZero; r2 = intZero; r3 = intZero; trap = false; links = noPeers; reason = normal }
 
 -- ---- a row of the table
 
@@ -190,15 +204,16 @@ table =
     ∷ refusing (sender 0 4) (run 1) 26
     -- P10 mail i5,a7, clauses atom, int: i5 leaves
     ∷ playing (world (rower 3 intZero intZero false unlinkedLinks) (Plain (int 5) ∷ Plain (Atom 7) ∷ []) 1 1 []) (run 1 ∷ []) 1 0
-    (world (withPlace (rower 3 (int 5) intZero false unlinkedLinks) 3) (Plain (Atom 7) ∷ []) 1 1 [])
+    (holding 1 (Plain (Atom 7)) (world (withPlace (rower 3 (int 5) intZero false unlinkedLinks) 3) (Plain (Atom 7) ∷ []) 1 1 []))
     -- spawn of itself: 27
     ∷ refusing (world spawner [] 1 1 []) (run 1) 27
     -- closing without links, run twice: gone, then 22
-    ∷ playing (world (closed intZero intZero false unlinkedLinks normal) [] 1 1 []) (run 1 ∷ run 1 ∷ []) 1 22 (world left [] 1 1 [])
+    ∷ playing (world (closed intZero intZero false unlinkedLinks normal) [] 1 1 []) (run 1 ∷ run 1 ∷ []) 1 22 (world over [] 1 1 [])
     -- closing with the links 2 and 3: exit(a9,1) is sent to 2, and 3 stays
     ∷ playing (world (closed intZero intZero false linkTwoThree (Atom 9)) [] 1 2 []) (run 1 ∷ []) 1 0 (world (closed intZero intZero false linkThree (Atom 9)) [] 1 2 (Exit (Atom 9) true ∷ []))
     -- the sample plan, after run=1 three times, arrive=2,1, run=2
-    ∷ playing started sampleActions 5 0 (sample (withPlace (rower 1 (pid 2) (int 12) false unlinkedLinks) 3) (withPlace (rower 2 (int 12) intZero false unlinkedLinks) 2))
+    ∷ playing started sampleActions 5 0
+    (holding 16 (Plain (int 12)) (sample (withPlace (rower 1 (pid 2) (int 12) false unlinkedLinks) 3) (withPlace (rower 2 (int 12) intZero false unlinkedLinks) 2)))
     ∷ []
 
 -- ---- its rows hold
@@ -216,7 +231,7 @@ unfolding sample-steps actionOf decode meaning scheduleOf ofLines readLines firs
 sample-read = (refl, refl)
 
 sample-count : (play started sampleActions .accepted ≡ 5) × (play started sampleActions .refusal ≡ 0)
-unfolding sample started opOf play played step rule ready commit incoming decide at numbered ownerBorn signalWaits pairHasRoom numberFree sound shaped viewSound view behavioursOf code setOf has bitsOf standing runningSound rowSound receives fits runs runsLive runsOp arrives operand instruction operandInRange inRange hasClauses targetsFree wellPlaced codeSound isNumber fitsInt messages joined without signals oldest pushed popped register withRegister moved advanced linksTo kindsOf
+unfolding sample started opOf play played step rule ready commit incoming decide numbered ownerBorn signalWaits pairHasRoom numberFree sound shaped viewSound view behavioursOf code setOf has bitsOf standing runningSound rowSound receives fits runs runsLive runsOp arrives operand instruction operandInRange inRange hasClauses targetsFree wellPlaced codeSound isNumber fitsInt messages signals changed joined left popped register withRegister moved advanced linksTo kindsOf
 sample-count = (refl, refl)
 
 -- what is printed of a play whose count, refusal and listing are known
@@ -236,5 +251,5 @@ unfolding play played
 no-steps n h = rw h
 
 pub ramp : All table
-unfolding All Holds table arrival running refusing plain rower closed left world fives sender spawner unlinkedLinks linkTwo linkThree linkTwoThree sample started ramp-ops opOf play played step rule ready commit incoming decide at numbered ownerBorn signalWaits pairHasRoom numberFree sound shaped viewSound view behavioursOf code setOf has bitsOf standing runningSound rowSound receives fits runs runsLive runsOp closes arrives exits operand instruction operandInRange inRange hasClauses targetsFree wellPlaced codeSound isNumber fitsInt sameValue messages joined without emptied signals oldest pushed popped register withRegister moved advanced trapped linksTo linked unlinked withPeer withoutPeer lowestPeer ended gone kindsOf
+unfolding All Holds table arrival running refusing plain rower closed over world holding fives sender spawner unlinkedLinks linkTwo linkThree linkTwoThree sample started ramp-ops opOf play played step rule ready commit incoming decide numbered ownerBorn signalWaits pairHasRoom numberFree sound shaped viewSound view behavioursOf code setOf has bitsOf standing runningSound rowSound receives fits runs runsLive runsOp closes arrives exits operand instruction operandInRange inRange hasClauses targetsFree wellPlaced codeSound isNumber fitsInt sameValue messages signals changed joined left popped emptied register withRegister moved advanced trapped linksTo linked unlinked withPeer withoutPeer lowestPeer ended gone kindsOf
 ramp = (no-steps, (sample-program, (refl, (refl, (refl, (refl, (refl, (refl, (refl, (refl, (refl, (refl, (refl, (refl, (refl, (refl, (refl, (refl, (refl, (refl, tt))))))))))))))))))))

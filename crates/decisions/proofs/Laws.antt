@@ -19,12 +19,12 @@ use Rattle.node.specs.declared.ProcessNumber.{ProcessNumber}
 use Rattle.node.specs.declared.Signal.{Signal}
 use Rattle.node.specs.declared.Signal.the-variants.{Exit}
 use Rattle.node.specs.declared.Stage.{Stage}
-use Rattle.node.specs.Mailboxes.{noMessage, emptyMailbox, messages, joined}
+use Rattle.node.specs.Mailboxes.{noMessage}
 use Rattle.node.specs.Nodes.{noOp}
 use Rattle.node.specs.Processes.{register, unlinked, ended}
 use Rattle.node.specs.declared.Value.{Value}
 use Rattle.node.specs.Values.{normal}
-use Rattle.rules.specs.Answers.{Answer}
+use Rattle.rules.specs.Answers.{Answer, mailboxFull}
 use Rattle.rules.specs.Arrive.{joinsWith, arrivesIn, arrives}
 use Rattle.rules.specs.Effects.{State, Effect, becomes, ends, sends}
 use Rattle.rules.specs.Receive.{receives}
@@ -100,23 +100,20 @@ module _ (i : ProcessNumber) (p : Process) (len : ℕ) (o : Op) where
   live-end h = rw (ops-length p len o, le-leb len (p .place) h)
 
   pub live-op : p .place < len → ranOp i p o ≡ says p 0 (runsLive (ops p len o) (i .0))
-  unfolding ranOp runsLive runsOp receives messages
+  unfolding ranOp runsLive runsOp receives
   live-op h = rw (ops-length p len o, lt-leb len (p .place) h, ops-op p len o h)
 
 -- ---- a process whose mailbox holds k messages
 
 module _ (p q : Process) (k : ℕ) where
   pub says-becomes : becoming q ≡ says p k (λ st. becomes st q)
-  says-becomes = rw (le-ltb k k (omega arith))
+  says-becomes = refl
 
   pub says-joins : (x : Message) → k < 16 → tells 0 q false (some x) none none ≡ says p k (λ st. joinsWith st q x)
-  unfolding joined
-  says-joins x h =
-      let l : k < min (k + 1) 255 = omega arith in
-      rw (lt-ltb k 16 h, lt-ltb k (min (k + 1) 255) l, getD-set-same (emptyMailbox .slots) k (record { message = x }) noMessage h)
+  says-joins x h = rw (length-replicate k (noMessage .message), lt-ltb k 16 h)
 
-  pub says-full : (x : Message) → 16 ≤ k → refusing p 24 ≡ says p k (λ st. joinsWith st q x)
-  says-full x h = rw (le-ltb k 16 h)
+  pub says-full : (x : Message) → 16 ≤ k → refusing p mailboxFull ≡ says p k (λ st. joinsWith st q x)
+  says-full x h = rw (length-replicate k (noMessage .message), le-ltb k 16 h)
 
 -- a process that becomes q where b holds and message x has room, which q is then said of; else p
 module _ (p q : Process) (k : ℕ) (x : Message) where

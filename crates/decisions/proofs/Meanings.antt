@@ -1,22 +1,19 @@
 -- What a record of this crate tells is the rules' answer, whatever the messages of the mailbox are: for a run where the op and the length are those
 -- of its code, and for an arrival where the count is that of its mailbox. Assumes nothing.
---   run-means        the answer that the record of a run tells is `runs`
---   run-joins-none   no message joins in a run
---   arrival-means    the answer that the record of an arrival tells is `arrives`
---   arrival-quiet    an arrival searches no mailbox, sends nothing and brings nobody to life
-use mathlib.Core.Bool.{Bool, true, false, cond, not, _&&_}
+--   run-means, arrival-means   the answer that the record of a run tells is `runs`, of an arrival `arrives`
+--   run-only                   a run that asks for a search of the mailbox asks for nothing else
+--   arrival-quiet              an arrival asks for none, and brings nobody to life
+use mathlib.Core.Bool.{Bool, true, false, cond, not, _&&_, false≢true}
 use mathlib.Core.List.{List, [], _∷_}
 use mathlib.Core.Option.{Option, none, some}
 use mathlib.Core.Path.{_≡_, refl, sym, _∙_, ap}
 use Prim.Native.Nat.{ℕ, zero, suc, _+_, _<_, min}
 use native.Mathlib.Omega.{arith}
-use borrow.Author.Tests.{leb-false, ltb-true, lt-ltb, le-ltb}
+use borrow.Author.Tests.{leb-false}
 use lib.Dec.{eqb, leb, ltb}
 use lib.IntN.{ℤ, _+ℤ_}
-use lib.ListN.{length, getD}
-use lib.Seq.{getD-set-same}
+use lib.ListN.{length, getD, length-replicate}
 use lib.Signed.{ltZ}
-use Rattle.node.specs.declared.Mailbox.{Mailbox}
 use Rattle.node.specs.declared.Message.{Message}
 use Rattle.node.specs.declared.Op.{Op}
 use Rattle.node.specs.declared.Process.{Process}
@@ -27,26 +24,27 @@ use Rattle.node.specs.declared.Stage.{Stage}
 use Rattle.node.specs.declared.Stage.the-variants.{Unborn, Live, Closing, Gone}
 use Rattle.node.specs.declared.Value.{Value}
 use Rattle.node.specs.declared.Value.the-variants.{Int}
-use Rattle.node.specs.Mailboxes.{noMessage, emptyMailbox, messages, joined}
-use Rattle.node.specs.Nodes.{noOp, noMailbox}
+use Rattle.node.specs.Mailboxes.{noMessage}
+use Rattle.node.specs.Nodes.{noOp}
 use Rattle.node.specs.Processes.{register, advanced, linksTo, linked, unlinked}
 use Rattle.node.specs.Sets.{lowestPeer}
 use Rattle.node.specs.Values.{normal, kill, badarg, badarith, pid, fitsInt, sameValue}
-use Rattle.rules.specs.Answers.{Answer, done, need, mailboxFull}
+use Rattle.rules.specs.Answers.{Answer, refused, done, need, mailboxFull, noFit}
 use Rattle.rules.specs.Arrive.{joinsWith, exits, takes, arrivesIn, arrives}
-use Rattle.rules.specs.Effects.{State, Effect, becomes, ends, sends}
+use Rattle.rules.specs.Effects.{State, joining, Effect, becomes, ends, sends}
 use Rattle.rules.specs.Receive.{receives}
-use Rattle.rules.specs.Run.{setsRegister, jumpsIf, integerIn, onIntegers, setsSum, adds, compares, processIn, toProcess, sendsTo, toOther, stops, opTable, runsOp, closesTo, closes, runsLive, runsIn, runs}
+use Rattle.rules.specs.Run.{setsRegister, jumpsIf, integerIn, onIntegers, setsSum, adds, compares, processIn, toProcess, sendsTo, toOther, stops, opTable, runsOp, closesTo, closes, runsLive}
+use Rattle.rules.specs.Run.{runsIn, runs}
 use Rattle.decisions.proofs.Laws.{ops-length, ops-op}
-use Rattle.receive.specs.Answers.{stateOf}
-use Rattle.decisions.specs.Answers.{unread, decisionOf, codeAt, ran, arrived, answerOf}
+use Rattle.decisions.specs.Answers.{stateOf, unread, refusing, searching, decisionOf, codeAt, ran, arrived, answerOf}
+use Rattle.decisions.specs.declared.Decision.{Decision}
 
 -- the code has len ops, and o stands at place t where t is not its end
 pub record At (code : List Op) (len t : ℕ) (o : Op) : Type 0 where
   pub size : length code ≡ len
   pub op : t < length code → getD code t noOp ≡ o
 
-module _ (code : List Op) (i : ℕ) (p : Process) (m : Mailbox) where
+module _ (code : List Op) (i : ℕ) (p : Process) (m : List Message) where
   -- the process with its mailbox, and what is told of answer a that was given without the messages
   abbrev st : State
   st = stateOf p m
@@ -58,13 +56,13 @@ module _ (code : List Op) (i : ℕ) (p : Process) (m : Mailbox) where
   heard-cond k true x y e f = e
   heard-cond k false x y e f = f
 
-  -- ---- a run: it joins no message
+  -- ---- a run
 
   abbrev bare : State
   bare = unread p 0
 
   abbrev Runs : Answer Effect → Answer Effect → Type 0
-  Runs x y = (heard 0 x ≡ y) × (decisionOf bare x .joins ≡ false)
+  Runs x y = heard 0 x ≡ y
 
   runs-cond : (b : Bool) (x y : Answer Effect) {v w : Answer Effect} → Runs x v → Runs y w → Runs (cond b x y) (cond b v w)
   runs-cond true x y e f = e
@@ -72,22 +70,22 @@ module _ (code : List Op) (i : ℕ) (p : Process) (m : Mailbox) where
 
   runs-integers : (v : Value) (f : State → ℤ → ℤ → Answer Effect) → ((x y : ℤ) → Runs (f bare x y) (f st x y)) → (a b : Option ℤ) → Runs (onIntegers bare v a b (f bare)) (onIntegers st v a b (f st))
   runs-integers v f h (some x) (some y) = h x y
-  runs-integers v f h (some x) none = (refl, refl)
-  runs-integers v f h none b = (refl, refl)
+  runs-integers v f h (some x) none = refl
+  runs-integers v f h none b = refl
 
   runs-adds : (r : ℕ) (v w : Value) → Runs (adds bare r v w) (adds st r v w)
   runs-adds r v w =
-      runs-integers badarith (λ t. setsSum t r) (λ x y. runs-cond (fitsInt (x +ℤ y)) (setsRegister bare r (Int (x +ℤ y))) (ends bare badarith) (refl, refl) (refl, refl)) (integerIn v) (integerIn w)
+      runs-integers badarith (λ t. setsSum t r) (λ x y. runs-cond (fitsInt (x +ℤ y)) (setsRegister bare r (Int (x +ℤ y))) (ends bare badarith) refl refl) (integerIn v) (integerIn w)
 
   runs-compares : (t : ℕ) (v w : Value) → Runs (compares bare t v w) (compares st t v w)
-  runs-compares t v w = runs-integers badarg (λ s x y. jumpsIf s (ltZ x y) t) (λ x y. (refl, refl)) (integerIn v) (integerIn w)
+  runs-compares t v w = runs-integers badarg (λ s x y. jumpsIf s (ltZ x y) t) (λ x y. refl) (integerIn v) (integerIn w)
 
   runs-to : (o : Option ℕ) (q : ℕ → Process) (x : Signal) → Runs (toProcess bare o (λ j. sends bare (advanced (q j)) j x)) (toProcess st o (λ j. sends st (advanced (q j)) j x))
-  runs-to none q x = (refl, refl)
-  runs-to (some j) q x = (refl, refl)
+  runs-to none q x = refl
+  runs-to (some j) q x = refl
 
   runs-other : (v : Value) (q : ℕ → Process) (x : Signal) → Runs (toOther i bare v (sendsTo bare v q x)) (toOther i st v (sendsTo st v q x))
-  runs-other v q x = runs-cond (sameValue v (pid i)) (becomes bare (advanced p)) (sendsTo bare v q x) (refl, refl) (runs-to (processIn v) q x)
+  runs-other v q x = runs-cond (sameValue v (pid i)) (becomes bare (advanced p)) (sendsTo bare v q x) refl (runs-to (processIn v) q x)
 
   -- two tables, entry by entry
   abbrev EachRuns : List (Answer Effect) → List (Answer Effect) → Type 0
@@ -112,13 +110,13 @@ module _ (code : List Op) (i : ℕ) (p : Process) (m : Mailbox) where
     s = register p (o .s)
 
     runs-table : EachRuns (opTable ops i bare o) (opTable code i st o)
-    unfolding receives messages
+    unfolding receives
     runs-table = (
-      (refl, refl),
+      refl,
       (
-        (refl, refl),
+        refl,
         (
-          (refl, refl),  -- set, copy, self
+          refl,  -- set, copy, self
           (
             runs-adds (o .r) r s,  -- add
             (
@@ -130,18 +128,18 @@ module _ (code : List Op) (i : ℕ) (p : Process) (m : Mailbox) where
                   (
                     runs-other r (unlinked p) Unlink,  -- unlink
                     (
-                      (refl, refl),
+                      refl,
                       (
-                        (refl, refl),  -- trap, spawn
+                        refl,  -- trap, spawn
                         (
-                          (ap (receives code st) stands, refl),  -- recv
+                          ap (receives code st) stands,  -- recv
                           (
-                            (refl, refl),
+                            refl,
                             (
-                              (refl, refl),
+                              refl,
                               (
-                                (refl, refl),  -- clause, jump, same
-                                (runs-compares (o .target) r s, ((refl, refl), tt)),
+                                refl,  -- clause, jump, same
+                                (runs-compares (o .target) r s, (refl, tt)),
                               ),
                             ),
                           ),
@@ -159,15 +157,15 @@ module _ (code : List Op) (i : ℕ) (p : Process) (m : Mailbox) where
 
     runs-op : Runs (runsOp ops i bare o) (runsOp code i st o)
     unfolding runsOp
-    runs-op = runs-at (opTable ops i bare o) (opTable code i st o) (stops bare o) (stops st o) runs-table (refl, refl) (o .number)
+    runs-op = runs-at (opTable ops i bare o) (opTable code i st o) (stops bare o) (stops st o) runs-table refl (o .number)
 
   runs-closes : Runs (closes bare) (closes st)
   unfolding closes
   runs-closes = go (lowestPeer (p .links))
     where
       go : (j : ℕ) → Runs (closesTo bare j) (closesTo st j)
-      go zero = (refl, refl)
-      go (suc j) = (refl, refl)
+      go zero = refl
+      go (suc j) = refl
 
   module _ (len : ℕ) (o : Op) where
     abbrev ops : List Op
@@ -179,113 +177,120 @@ module _ (code : List Op) (i : ℕ) (p : Process) (m : Mailbox) where
       where
         go : (b : Bool) → leb len (p .place) ≡ b →
             Runs (cond b (ends bare normal) (runsOp ops i bare (getD ops (p .place) noOp))) (cond b (ends st normal) (runsOp code i st (getD code (p .place) noOp)))
-        go true e = (refl, refl)
+        go true e = refl
         go false e =
             let inside : p .place < len = leb-false len (p .place) e in
             let here : getD code (p .place) noOp ≡ o = h .op (omega (arith, inside, h .size)) in
             let t = runs-op ops o here in
-            rw (ops-op p len o inside) (t .0 ∙ ap (runsOp code i st) (sym here), t .1)
+            rw (ops-op p len o inside) (t ∙ ap (runsOp code i st) (sym here))
 
     runs-in : (s : Stage) → (s ≡ Live → At code len (p .place) o) → Runs (runsIn s ops i bare) (runsIn s code i st)
-    runs-in Unborn h = (refl, refl)
+    runs-in Unborn h = refl
     runs-in Live h = runs-live (h refl)
     runs-in Closing h = runs-closes
-    runs-in Gone h = (refl, refl)
+    runs-in Gone h = refl
 
   -- ---- an arrival
 
   abbrev k : ℕ
-  k = m .count
+  k = length m
 
   abbrev counted : State
   counted = unread p k
 
-  heard-becomes : (q : Process) → heard k (becomes counted q) ≡ becomes st q
-  heard-becomes q = rw (le-ltb k k (omega arith))
-
   heard-joins : (q : Process) (x : Message) → heard k (joinsWith counted q x) ≡ joinsWith st q x
-  unfolding joined
-  heard-joins q x = go (ltb k 16) refl
+  heard-joins q x = rw (length-replicate k (noMessage .message)) (go (ltb k 16))
     where
-      go : (b : Bool) → ltb k 16 ≡ b →
-          heard k (need b mailboxFull (done (record { process = q; mail = joined (counted .mail) x; sent = none; born = none }))) ≡ need b mailboxFull (done (record { process = q; mail = joined m x; sent = none; born = none }))
-      go true e =
-          let h : k < 16 = ltb-true k 16 e in
-          let l : k < min (k + 1) 255 = omega arith in
-          rw (lt-ltb k (min (k + 1) 255) l, getD-set-same (emptyMailbox .slots) k (record { message = x }) noMessage h)
-      go false e = refl
+      go : (b : Bool) →
+          heard k (need b mailboxFull (done (record { process = q; mail = joining x; sent = none; born = none })))
+          ≡ need b mailboxFull (done (record { process = q; mail = joining x; sent = none; born = none }))
+      go true = refl
+      go false = refl
 
   module _ (j : ℕ) where
     heard-exits : (v : Value) (b : Bool) → heard k (exits i j counted v b) ≡ exits i j st v b
     unfolding exits
     heard-exits v b =
-        heard-cond k (b && not (linksTo p j)) _ _ (heard-becomes p)
-        (heard-cond k (not b && sameValue v kill) _ _ (heard-becomes _)
+        heard-cond k (b && not (linksTo p j)) _ _ refl
+        (heard-cond k (not b && sameValue v kill) _ _ refl
         (heard-cond k (p .trap) _ _ (heard-joins _ _)
-        (heard-cond k (sameValue v normal && not (eqb j i)) _ _ (heard-becomes p) (heard-becomes _))))
+        (heard-cond k (sameValue v normal && not (eqb j i)) _ _ refl refl)))
 
     heard-takes : (x : Signal) → heard k (takes i j counted x) ≡ takes i j st x
     heard-takes (Msg v) = heard-joins p _
     heard-takes (Exit v b) = heard-exits v b
-    heard-takes Link = heard-becomes _
-    heard-takes Unlink = heard-becomes _
+    heard-takes Link = refl
+    heard-takes Unlink = refl
 
     heard-arrives : (s : Stage) (x : Signal) → heard k (arrivesIn s i j counted x) ≡ arrivesIn s i j st x
     heard-arrives Unborn x = refl
     heard-arrives Live x = heard-takes x
-    heard-arrives Closing x = heard-becomes p
-    heard-arrives Gone x = heard-becomes p
+    heard-arrives Closing x = refl
+    heard-arrives Gone x = refl
 
 -- a run whose length and op are those of its code
-module _ (code : List Op) (i : ProcessNumber) (p : Process) (len : ℕ) (o : Op) (stands : p .stage ≡ Live → At code len (p .place) o) where
-  pub run-means : (m : Mailbox) → answerOf code (i .0) (stateOf p m) (ran i p len o) ≡ runs code (i .0) (stateOf p m)
-  unfolding ran runs
-  run-means m = runs-in code (i .0) p m len o (p .stage) stands .0
-
-  pub run-joins-none : ran i p len o .joins ≡ false
-  unfolding ran runs
-  run-joins-none = runs-in code (i .0) p noMailbox len o (p .stage) stands .1
+pub run-means : (code : List Op) (i : ProcessNumber) (p : Process) (len : ℕ) (o : Op) (m : List Message) → (p .stage ≡ Live → At code len (p .place) o) →
+    answerOf code (i .0) (stateOf p m) (ran i p len o) ≡ runs code (i .0) (stateOf p m)
+unfolding ran runs
+run-means code i p len o m stands = runs-in code (i .0) p m len o (p .stage) stands
 
 -- an arrival at a mailbox that has as many messages as were told
-pub arrival-means : (code : List Op) (i j : ProcessNumber) (p : Process) (m : Mailbox) (x : Signal) →
-    answerOf code (i .0) (stateOf p m) (arrived i j p (m .count) x) ≡ arrives (i .0) (j .0) (stateOf p m) x
+pub arrival-means : (code : List Op) (i j : ProcessNumber) (p : Process) (m : List Message) (x : Signal) →
+    answerOf code (i .0) (stateOf p m) (arrived i j p (length m) x) ≡ arrives (i .0) (j .0) (stateOf p m) x
 unfolding arrived arrives
 arrival-means code i j p m x = heard-arrives code (i .0) p m (j .0) (p .stage) x
 
--- ---- what an arrival leaves out
+-- ---- a decision that searches the mailbox does nothing else
+
+abbrev pub Only : Decision → Type 0
+Only e = (e .refusal ≡ 0) × (e .joins ≡ false) × (e .sends ≡ false) × (e .spawns ≡ false)
+
+only-searching : (st : State) (a : Answer Effect) → decisionOf st a .receives ≡ true → Only (decisionOf st a)
+only-searching st (refused k) h = go (eqb k noFit) h
+  where
+    go : (b : Bool) → cond b (searching (st .process)) (refusing (st .process) k) .receives ≡ true → Only (cond b (searching (st .process)) (refusing (st .process) k))
+    go true e = (refl, refl, refl, refl)
+    go false e = absurd (false≢true e)
+only-searching st (done x) h = absurd (false≢true h)
+
+pub run-only : (i : ProcessNumber) (p : Process) (len : ℕ) (o : Op) → ran i p len o .receives ≡ true → Only (ran i p len o)
+unfolding ran
+run-only i p len o h = only-searching (unread p 0) (runs (codeAt len (p .place) o) (i .0) (unread p 0)) h
+
+-- ---- an arrival searches no mailbox and brings nobody to life
 
 module _ (i j : ℕ) (p : Process) (k : ℕ) where
   abbrev Quiet : Answer Effect → Type 0
-  Quiet a = let e = decisionOf (unread p k) a in (e .receives ≡ false) × (e .sends ≡ false) × (e .spawns ≡ false)
+  Quiet a = (decisionOf (unread p k) a .receives ≡ false) × (decisionOf (unread p k) a .spawns ≡ false)
 
   quiet-cond : (b : Bool) (x y : Answer Effect) → Quiet x → Quiet y → Quiet (cond b x y)
   quiet-cond true x y g h = g
   quiet-cond false x y g h = h
 
   quiet-joins : (q : Process) (x : Message) → Quiet (joinsWith (unread p k) q x)
-  quiet-joins q x = go (ltb k 16)
+  quiet-joins q x = go (ltb (length (unread p k .mail)) 16)
     where
-      go : (b : Bool) → Quiet (need b mailboxFull (done (record { process = q; mail = joined (unread p k .mail) x; sent = none; born = none })))
-      go true = (refl, refl, refl)
-      go false = (refl, refl, refl)
+      go : (b : Bool) → Quiet (need b mailboxFull (done (record { process = q; mail = joining x; sent = none; born = none })))
+      go true = (refl, refl)
+      go false = (refl, refl)
 
   quiet-takes : (x : Signal) → Quiet (takes i j (unread p k) x)
   unfolding exits
   quiet-takes (Msg v) = quiet-joins p _
   quiet-takes (Exit v b) =
-      quiet-cond (b && not (linksTo p j)) _ _ (refl, refl, refl)
-      (quiet-cond (not b && sameValue v kill) _ _ (refl, refl, refl)
+      quiet-cond (b && not (linksTo p j)) _ _ (refl, refl)
+      (quiet-cond (not b && sameValue v kill) _ _ (refl, refl)
       (quiet-cond (p .trap) _ _ (quiet-joins _ _)
-      (quiet-cond (sameValue v normal && not (eqb j i)) _ _ (refl, refl, refl) (refl, refl, refl))))
-  quiet-takes Link = (refl, refl, refl)
-  quiet-takes Unlink = (refl, refl, refl)
+      (quiet-cond (sameValue v normal && not (eqb j i)) _ _ (refl, refl) (refl, refl))))
+  quiet-takes Link = (refl, refl)
+  quiet-takes Unlink = (refl, refl)
 
   quiet-arrives : (s : Stage) (x : Signal) → Quiet (arrivesIn s i j (unread p k) x)
-  quiet-arrives Unborn x = (refl, refl, refl)
+  quiet-arrives Unborn x = (refl, refl)
   quiet-arrives Live x = quiet-takes x
-  quiet-arrives Closing x = (refl, refl, refl)
-  quiet-arrives Gone x = (refl, refl, refl)
+  quiet-arrives Closing x = (refl, refl)
+  quiet-arrives Gone x = (refl, refl)
 
-pub arrival-quiet : (i j : ProcessNumber) (p : Process) (k : ℕ) (x : Signal) → (arrived i j p k x .receives ≡ false) × (arrived i j p k x .sends ≡ false) × (arrived i j p k x .spawns ≡ false)
+pub arrival-quiet : (i j : ProcessNumber) (p : Process) (k : ℕ) (x : Signal) → (arrived i j p k x .receives ≡ false) × (arrived i j p k x .spawns ≡ false)
 unfolding arrived arrives
 arrival-quiet i j p k x = quiet-arrives (i .0) (j .0) p k (p .stage) x

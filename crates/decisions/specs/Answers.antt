@@ -1,17 +1,19 @@
 -- What the answers of this crate mean in the rules of document 01. A decision reads the process, and of its mailbox only how many messages it
 -- holds; it answers with a record of the code, in which a message, a sending and a birth stand behind flags.
---   unread p k             what a decision knows of its owner: process p, with a mailbox of k messages that are not looked at
+--   stateOf p m            the local state of a process with its messages
+--   unread p k             what a decision knows of its owner: process p, with k messages that are not looked at
 --   tells ..               the record that tells a refusal (0 if none), the next process, whether the mailbox is to be searched, which message
 --                          joins, what is sent and who is brought to life; where there is none of these, its fields are blank
 --   refusing, becoming, searching, sendingTo   four such records by name
---   newest k m             the message that stands behind k others in mailbox m
+--   joinedBy c             the message that joins by a change of the mailbox
 --   decisionOf st a        the record that tells answer a of the rules, of a process in state st
 --   says p k f             the record that tells what rule f answers for process p with k messages
 --   ranOp i p o            what a run of process i at op o says
 --   codeAt len t o         a code of len ops, with o at place t
 --   ran i p len o          what a run of process i, whose code has len ops and which is at op o, says
 --   arrived i j p k x      what the arrival at process i of signal x from j says
---   mailOf, sentOf, bornOf the mailbox behind a record, what it sends, and whom it brings to life
+--   mailOf, sentOf, bornOf what becomes of the mailbox by a record, what it sends, and whom it brings to life
+--   effectOf i e           the effect that a record tells of process i
 --   answerOf code i st e   the rules' answer that record e tells of process i, in state st and with its code: of a run and of an arrival
 --   senderOf p x j         process p once it sends x to j: link and unlink change its own links
 --   sumOf z                the sum of two integers, where it is one too
@@ -20,10 +22,9 @@ use mathlib.Core.Bool.{Bool, true, false, cond}
 use mathlib.Core.List.{List, []}
 use mathlib.Core.Option.{Option, none, some, Option·getD}
 use Prim.Native.Nat.{ℕ}
-use lib.Dec.{eqb, ltb}
+use lib.Dec.{eqb}
 use lib.IntN.{ℤ}
 use lib.ListN.{getD, set, replicate}
-use Rattle.node.specs.declared.Mailbox.{Mailbox}
 use Rattle.node.specs.declared.Message.{Message}
 use Rattle.node.specs.declared.Op.{Op}
 use Rattle.node.specs.declared.Process.{Process}
@@ -31,14 +32,13 @@ use Rattle.node.specs.declared.ProcessNumber.{ProcessNumber}
 use Rattle.node.specs.declared.Signal.{Signal}
 use Rattle.node.specs.declared.Signal.the-variants.{Msg, Exit, Link, Unlink}
 use Rattle.node.specs.declared.Value.the-variants.{Int}
-use Rattle.node.specs.Mailboxes.{noMessage, emptyMailbox, joined}
+use Rattle.node.specs.Mailboxes.{noMessage}
 use Rattle.node.specs.Nodes.{noOp, noProcess}
 use Rattle.node.specs.Processes.{fresh, linked, unlinked}
 use Rattle.node.specs.Values.{intZero, pid, fitsInt}
-use Rattle.receive.specs.Answers.{stateOf}
 use Rattle.rules.specs.Answers.{Answer, refused, done, noFit}
 use Rattle.rules.specs.Arrive.{arrives}
-use Rattle.rules.specs.Effects.{State, Sending, Birth, Effect}
+use Rattle.rules.specs.Effects.{State, MailChange, unchanged, joining, leaving, Sending, Birth, Effect}
 use Rattle.rules.specs.Receive.{receives}
 use Rattle.rules.specs.Run.{runs, runsOp}
 use Rattle.decisions.specs.declared.Pair.{Pair}
@@ -46,8 +46,11 @@ use Rattle.decisions.specs.declared.Pair.the-variants.{Not, Both}
 use Rattle.decisions.specs.declared.Sum.{Sum}
 use Rattle.decisions.specs.declared.Decision.{Decision}
 
+abbrev pub stateOf : Process → List Message → State
+stateOf p m = record { process = p; mail = m }
+
 abbrev pub unread : Process → ℕ → State
-unread p k = stateOf p (record { slots = emptyMailbox .slots; count = k })
+unread p k = stateOf p (replicate k (noMessage .message))
 
 -- ---- the record
 
@@ -90,14 +93,15 @@ searching p = tells 0 p true none none none
 abbrev pub sendingTo : Process → ProcessNumber → Signal → Decision
 sendingTo p j x = tells 0 p false none (some (record { to = j .0; signal = x })) none
 
--- the message that joined: the mailbox has one more than k, and it stands behind them
-abbrev pub newest : ℕ → Mailbox → Option Message
-newest k m = cond (ltb k (m .count)) (some (getD (m .slots) k noMessage .message)) none
+abbrev pub joinedBy : MailChange → Option Message
+joinedBy unchanged = none
+joinedBy (joining x) = some x
+joinedBy (leaving k) = none
 
 -- "recv without a fit": where no message was looked at, 25 says that the mailbox is still to be searched
 abbrev pub decisionOf : State → Answer Effect → Decision
 decisionOf st (refused k) = cond (eqb k noFit) (searching (st .process)) (refusing (st .process) k)
-decisionOf st (done x) = tells 0 (x .process) false (newest (st .mail .count) (x .mail)) (x .sent) (x .born)
+decisionOf st (done x) = tells 0 (x .process) false (joinedBy (x .mail)) (x .sent) (x .born)
 
 abbrev pub says : Process → ℕ → (State → Answer Effect) → Decision
 says p k f = decisionOf (unread p k) (f (unread p k))
@@ -119,8 +123,8 @@ arrived i j p k x = says p k (λ st. arrives (i .0) (j .0) st x)
 
 -- ---- the answer that a record tells
 
-abbrev pub mailOf : Mailbox → Decision → Mailbox
-mailOf m e = cond (e .joins) (joined m (e .message)) m
+abbrev pub mailOf : Decision → MailChange
+mailOf e = cond (e .joins) (joining (e .message)) unchanged
 
 abbrev pub sentOf : Decision → Option Sending
 sentOf e = cond (e .sends) (some (record { to = e .to .0; signal = e .signal })) none
@@ -128,10 +132,13 @@ sentOf e = cond (e .sends) (some (record { to = e .to .0; signal = e .signal }))
 abbrev pub bornOf : ℕ → Decision → Option Birth
 bornOf i e = cond (e .spawns) (some (record { number = e .number .0; process = fresh (e .behaviour) (pid i) })) none
 
+abbrev pub effectOf : ℕ → Decision → Effect
+effectOf i e = record { process = e .process; mail = mailOf e; sent = sentOf e; born = bornOf i e }
+
 abbrev pub answerOf : List Op → ℕ → State → Decision → Answer Effect
 answerOf code i st e =
     cond (e .receives) (receives code st (getD code (st .process .place) noOp))
-    (cond (eqb (e .refusal) 0) (done (record { process = e .process; mail = mailOf (st .mail) e; sent = sentOf e; born = bornOf i e }))
+    (cond (eqb (e .refusal) 0) (done (effectOf i e))
     (refused (e .refusal)))
 
 abbrev pub senderOf : Process → Signal → ℕ → Process

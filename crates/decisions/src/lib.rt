@@ -10,14 +10,21 @@ ghost use Rattle.node.specs.Values.{pid, normal, kill, badarg, sameValue};
 ghost use Rattle.rules.specs.Effects.{becomes, ends};
 ghost use Rattle.rules.specs.Run.{setsRegister, jumpsIf, integerIn, setsSum, adds, compares, sendsTo, toOther, spawns, closes, runsLive};
 ghost use Rattle.rules.specs.Arrive.{joinsWith, notes, exits, takes};
+ghost use Rattle.rules.specs.Steps.{isUnborn};
 ghost use Rattle.decisions.specs.Answers.{refusing, becoming, searching, sendingTo, says, codeAt, senderOf};
 ghost use Rattle.decisions.specs.Answers.{ranOp, ran, arrived, sumOf, integersOf};
+ghost use Rattle.decisions.specs.Decided.{decidedOf, pairRefusal, birthRefusal};
+use actions::Decoded;
+use node::BAD_NUMBER;
 use node::BehaviourNumber;
 use node::MAILBOX_FULL;
 use node::Message;
+use node::NONE_IN_FLIGHT;
+use node::NOT_UNBORN;
 use node::OWNER_GONE;
 use node::OWNER_UNBORN;
 use node::Op;
+use node::PAIR_FULL;
 use node::Process;
 use node::ProcessNumber;
 use node::Signal;
@@ -40,6 +47,62 @@ pub struct Decision {
     pub spawns: bool,
     pub number: ProcessNumber,
     pub behaviour: BehaviourNumber,
+}
+
+// What the owner of step s decides, from what stands at its places: its process p, the signals in flight of its row and the oldest of
+// them, x, the length of its code and the op at its place, and how many messages wait. 20, 21 and 23 come first.
+pub fn decide(
+    s: Decoded,
+    p: Process,
+    signals: u8,
+    x: Signal,
+    len: u8,
+    op: Op,
+    waiting: u8,
+) -> Decision
+    ensures { λ e. ⌜ e ≡ decidedOf s p signals x len op waiting ⌝ }
+{
+    if s.bad {
+        return Decision::refuses(p, BAD_NUMBER);
+    }
+    if is_unborn(p) {
+        return Decision::refuses(p, OWNER_UNBORN);
+    }
+    let i = s.owner;
+    if s.arrives {
+        if signals == 0 {
+            return Decision::refuses(p, NONE_IN_FLIGHT);
+        }
+        let j = s.from;
+        return arrive(i, j, p, waiting, x);
+    }
+    run(i, p, len, op)
+}
+
+// 26: the refusal of a decision that sends, to a receiver with so many signals in flight; what refuses it already is told first.
+pub fn pair_refusal(refusal: u8, sent: u8) -> u8
+    ensures { λ r. ⌜ r ≡ pairRefusal refusal sent ⌝ }
+{
+    if refusal != 0 {
+        return refusal;
+    }
+    if 4 <= sent {
+        return PAIR_FULL;
+    }
+    0
+}
+
+// 27: the same of a decision that brings to life a process which is `old` as yet.
+pub fn birth_refusal(refusal: u8, old: Process) -> u8
+    ensures { λ r. ⌜ r ≡ birthRefusal refusal old ⌝ }
+{
+    if refusal != 0 {
+        return refusal;
+    }
+    if is_unborn(old) {
+        return 0;
+    }
+    NOT_UNBORN
 }
 
 // A run of process i, whose code has len ops and which is at op.
@@ -94,7 +157,7 @@ pub fn arrive(i: ProcessNumber, j: ProcessNumber, p: Process, count: u8, x: Sign
 }
 
 impl Decision {
-    fn refuses(p: Process, k: u8) -> Decision
+    pub fn refuses(p: Process, k: u8) -> Decision
         ensures { λ e. ⌜ e ≡ refusing p k ⌝ }
     {
         Decision {
@@ -516,5 +579,17 @@ fn take(i: ProcessNumber, j: ProcessNumber, p: Process, count: u8, x: Signal) ->
         Signal::Exit(v, b) => exit(i, j, p, count, v, b),
         Signal::Link => Decision::becomes(p.linked(j)),
         Signal::Unlink => Decision::becomes(p.unlinked(j)),
+    }
+}
+
+fn is_unborn(p: Process) -> bool
+    ensures { λ r. ⌜ r ≡ isUnborn (p .stage) ⌝ }
+{
+    let stage = p.stage;
+    match stage {
+        Stage::Unborn => true,
+        Stage::Live => false,
+        Stage::Closing => false,
+        Stage::Gone => false,
     }
 }

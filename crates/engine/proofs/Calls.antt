@@ -3,12 +3,13 @@ use mathlib.Core.Bool.{Bool, true, false, not, So, cond}
 use mathlib.Core.List.{List, [], _∷_, _++_, map}
 use mathlib.Core.Path.{_≡_, refl, sym, _∙_, ap}
 use Prim.Native.Nat.{ℕ, _+_, _/_, _%_, _≤_, _<_}
+use native.Mathlib.Decide.{ℕ-discrete}
 use native.Mathlib.Numerals.{add-one}
 use native.Mathlib.Omega.{arith}
 use borrow.Author.Tests.{ne-eqb, lt-ltb, le-ltb}
 use lib.Dec.{ltb}
-use lib.ListN.{length, getD, take}
-use lib.Seq.{take-suc, take-all}
+use lib.ListN.{length, getD, set}
+use lib.Seq.{ext-getD, getD-set-same, getD-set-other}
 use Rattle.node.proofs.Lists.{map-rising-at}
 use Rattle.node.specs.declared.Node.{Node}
 use Rattle.node.specs.declared.Step.{Step}
@@ -17,12 +18,12 @@ use Rattle.rules.specs.Answers.{Answer, refused, done, need}
 use Rattle.rules.specs.Nodes.{Sound, sound}
 use Rattle.rules.specs.Steps.{Action, run, meaning, Outcome, step, rule, playsOn, played, play}
 use Rattle.rules.specs.Suggest.{possible, isDone, acceptable}
-use Rattle.rules.proofs.All.{both, allOf-join}
+use Rattle.rules.proofs.All.{both}
 use Rattle.rules.proofs.Suggest.{possible-count}
-use Rattle.actions.specs.Numbers.{decode, actionOf}
+use Rattle.actions.specs.Numbers.{encode, decode, actionOf}
 use Rattle.engine.specs.declared.Played.{Played as Answered}
 use Rattle.engine.specs.declared.Stepped.{Stepped}
-use Rattle.engine.specs.Answers.{playedOf, steppedBy, possibleStep}
+use Rattle.engine.specs.Answers.{playedOf, steppedBy, possibleStep, possibleNumbers, firstOf}
 
 -- ---- 31 and 32
 
@@ -49,7 +50,8 @@ one : (n : Node) (a : Action) → stepped n (play n (a ∷ [])) ≡ steppedBy n 
 unfolding play played step
 one n a = go (sound n) refl (rule n a)
   where
-    go : (b : Bool) → sound n ≡ b → (x : Answer Node) → stepped n (cond (not b) (record { accepted = 0; refusal = 31; node = n }) (cond (ltb 4096 1) (record { accepted = 0; refusal = 32; node = n }) (playsOn n (need b 31 x) (λ m. record { accepted = 0; refusal = 0; node = m })))) ≡ steppedBy n (need b 31 x)
+    go : (b : Bool) → sound n ≡ b → (x : Answer Node) → stepped n (cond (not b) (record { accepted = 0; refusal = 31; node = n }) (cond (ltb 4096 1) (record { accepted = 0; refusal = 32; node = n })
+        (playsOn n (need b 31 x) (λ m. record { accepted = 0; refusal = 0; node = m })))) ≡ steppedBy n (need b 31 x)
     go true e (refused k) = refl
     go true e (done m) = refl
     go false e x = refl
@@ -57,30 +59,6 @@ one n a = go (sound n) refl (rule n a)
 pub step-31 : (n : Node) (a : Action) → sound n ≡ false → record { node = n; refusal = 31 } ≡ steppedBy n (step n a)
 unfolding step
 step-31 n a h = rw h
-
--- a step is acceptable exactly where the play of it alone accepts one
-module _ (n : Node) (a : Action) where
-  alone : (x : Answer Node) → playsOn n x (λ m. record { accepted = 0; refusal = 0; node = m }) .accepted ≡ cond (isDone x) 1 0
-  alone (refused k) = refl
-  alone (done m) = refl
-
-  tried : played n (a ∷ []) .accepted ≡ cond (acceptable n a) 1 0
-  unfolding played acceptable
-  tried = alone (step n a)
-
-  tried-yes : played n (a ∷ []) .accepted ≡ 1 → So (acceptable n a)
-  tried-yes h = go (acceptable n a) (sym tried ∙ h)
-    where
-      go : (b : Bool) → _≡_ {A = ℕ} (cond b 1 0) 1 → So b
-      go true h = refl
-      go false h = absurd (omega (arith, h))
-
-  tried-no : (played n (a ∷ []) .accepted ≡ 1 → ⊥) → So (not (acceptable n a))
-  tried-no h = go (acceptable n a) (λ q. h (tried ∙ q))
-    where
-      go : (b : Bool) → (_≡_ {A = ℕ} (cond b 1 0) 1 → ⊥) → So (not b)
-      go true h = absurd (h refl)
-      go false h = refl
 
 -- ---- the possible steps
 
@@ -94,17 +72,59 @@ possible-made = refl
 possible-at : (k : ℕ) → k < 272 → getD possible k (run 0) ≡ possibleAction k
 possible-at k h = let e : 0 + k ≡ k = omega arith in ap (λ (l : List Action). getD l k (run 0)) (sym possible-made) ∙ map-rising-at possibleAction 0 272 k (run 0) h ∙ ap possibleAction e
 
--- none of the first k is acceptable
-abbrev pub NoneOf : Node → ℕ → Type 0
-NoneOf n k = So (allOf (λ a. not (acceptable n a)) (take k possible))
+-- the numbers of the possible steps
+numbers-made : map actionOf possibleNumbers ≡ possible
+unfolding possible possibleNumbers possibleStep actionOf decode encode meaning
+numbers-made = refl
 
-pub none-more : (n : Node) (k : ℕ) → k < 272 → NoneOf n k → So (not (acceptable n (possibleAction k))) → NoneOf n (k + 1)
-none-more n k h v x =
-    let e : take (k + 1) possible ≡ take k possible ++ (possibleAction k ∷ []) = rw add-one (take-suc possible k (run 0) (rw possible-count h) ∙ rw (possible-at k h)) in
-    rw e (allOf-join (λ a. not (acceptable n a)) (take k possible) (possibleAction k ∷ []) v (both x refl))
+abbrev pub Filled : List ℕ → ℕ → Type 0
+Filled l k = (j : ℕ) → j < k → getD l j 0 ≡ encode (possibleStep j)
 
-pub none-all : (n : Node) (k : ℕ) → 272 ≤ k → NoneOf n k → So (allOf (λ a. not (acceptable n a)) possible)
-none-all n k h v = rw (take-all k possible (rw possible-count h)) at v
+module _ (l : List ℕ) (size : length l ≡ 272) where
+  pub filled-more : (k x : ℕ) → k < 272 → x ≡ encode (possibleStep k) → Filled l k → Filled (set l k x) (k + 1)
+  filled-more k x h e f j b = go (ℕ-discrete j k)
+    where
+      go : Dec (j ≡ k) → getD (set l k x) j 0 ≡ encode (possibleStep j)
+      go (yes q) = rw q (getD-set-same l k x 0 (rw size h) ∙ e)
+      go (no q) = getD-set-other l k j x 0 q ∙ f j (omega arith)
+
+  pub filled-all : (k : ℕ) → 272 ≤ k → Filled l k → l ≡ possibleNumbers
+  unfolding possibleNumbers
+  filled-all k h f =
+      ext-getD 0 l possibleNumbers (size ∙ refl) (λ j b.
+      let small : j < 272 = rw size at b in
+      let z : 0 + j ≡ j = omega arith in
+      f j (omega (arith, small, h)) ∙ ap (λ (i : ℕ). encode (possibleStep i)) (sym z) ∙ sym (map-rising-at (λ i. encode (possibleStep i)) 0 272 j 0 small))
+
+-- the first of a list that is acceptable
+module _ (n : Node) where
+  first-in : (a : Action) (l : List Action) (d : Action) (b : Bool) → acceptable n a ≡ b → (firstOf n l < length l → So (acceptable n (getD l (firstOf n l) d))) → cond b 0 (firstOf n l + 1) < length
+      (a ∷ l) → So (acceptable n (getD (a ∷ l) (cond b 0 (firstOf n l + 1)) d))
+  first-in a l d true e more h = e
+  first-in a l d false e more h = rw (add-one (firstOf n l)) (more (omega arith))
+
+  pub first-accepted : (l : List Action) (d : Action) → firstOf n l < length l → So (acceptable n (getD l (firstOf n l) d))
+  first-accepted [] d h = absurd (omega arith)
+  first-accepted (a ∷ l) d h = first-in a l d (acceptable n a) refl (first-accepted l d) h
+
+  first-out : (a : Action) (l : List Action) (b : Bool) → acceptable n a ≡ b → (length l ≤ firstOf n l → So (allOf (λ c. not (acceptable n c)) l)) → length (a ∷ l) ≤ cond b 0 (firstOf n l + 1)
+      → So (allOf (λ c. not (acceptable n c)) (a ∷ l))
+  first-out a l true e more h = absurd (omega arith)
+  first-out a l false e more h = both {a = not (acceptable n a)} (rw e) (more (omega arith))
+
+  pub none-accepted : (l : List Action) → length l ≤ firstOf n l → So (allOf (λ c. not (acceptable n c)) l)
+  none-accepted [] h = refl
+  none-accepted (a ∷ l) h = first-out a l (acceptable n a) refl (none-accepted l) h
+
+  module _ (l : List ℕ) (all : l ≡ possibleNumbers) (k : ℕ) (first : k ≡ firstOf n (map actionOf l)) where
+    first-possible : firstOf n possible ≡ k
+    first-possible = ap (firstOf n) (sym numbers-made) ∙ ap (λ (z : List ℕ). firstOf n (map actionOf z)) (sym all) ∙ sym first
+
+    pub suggests-it : k < 272 → So (acceptable n (meaning (possibleStep k)))
+    suggests-it h = rw (first-possible, possible-at k h) at (first-accepted possible (run 0) (rw (first-possible, possible-count) h))
+
+    pub suggests-none : 272 ≤ k → So (allOf (λ a. not (acceptable n a)) possible)
+    suggests-none h = none-accepted possible (rw (first-possible, possible-count) h)
 
 pub possible-run : (k : ℕ) → k % 17 ≡ 0 → record { kind = 0; owner = record { 0 = k / 17 + 1 }; from = record { 0 = 0 } } ≡ possibleStep k
 unfolding possibleStep
@@ -123,13 +143,3 @@ module _ (n : Node) (s : Step) (k : ℕ) (encoded : decode k ≡ s) where
 
   pub step-played : Sound n → (r : Answered) → playedOf r ≡ played n (map actionOf (k ∷ [])) → record { node = r .node; refusal = r .refusal } ≡ steppedBy n (step n (meaning s))
   step-played ok r h = ap (stepped n) (h ∙ play-on n (map actionOf (k ∷ [])) ok (omega arith)) ∙ rw action-of (one n (meaning s))
-
-  module _ (r : Answered) (h : playedOf r ≡ played n (map actionOf (k ∷ []))) where
-    count-is : r .accepted ≡ played n (meaning s ∷ []) .accepted
-    count-is = ap (λ (x : Outcome). x .accepted) h ∙ rw action-of
-
-    pub accepts : r .accepted ≡ 1 → So (acceptable n (meaning s))
-    accepts q = tried-yes n (meaning s) (sym count-is ∙ q)
-
-    pub refuses : (r .accepted ≡ 1 → ⊥) → So (not (acceptable n (meaning s)))
-    refuses q = tried-no n (meaning s) (λ e. q (count-is ∙ e))

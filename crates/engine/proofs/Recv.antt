@@ -16,7 +16,7 @@ use Rattle.node.specs.Values.{normal}
 use Rattle.rules.specs.Answers.{Answer, refused, ownerUnborn, ownerGone, noFit}
 use Rattle.rules.specs.Effects.{State, Effect, ends}
 use Rattle.rules.specs.Run.{runsOp, closes, runsLive, runsIn, runs}
-use Rattle.rules.proofs.Ops.{At, op-shown}
+use Rattle.rules.proofs.Ops.{op-shown}
 use Rattle.rules.proofs.Runs.{closes-told}
 use Rattle.rules.proofs.Told.{Told}
 
@@ -34,11 +34,12 @@ module _ (code : List Op) (i : ℕ) (st : State) where
   unfolding runs runsLive
   only-recv h = go (st .process .stage) refl h
     where
-      live : (b : Bool) → st .process .stage ≡ Live → leb (length code) (st .process .place) ≡ b → cond b (ends st normal) (runsOp code i st (getD code (st .process .place) noOp)) ≡ refused noFit → AtRecv
+      live : (b : Bool) → st .process .stage ≡ Live → leb (length code) (st .process .place) ≡ b → cond b (ends st normal) (runsOp code i st (getD code (st .process .place) noOp)) ≡ refused noFit
+          → AtRecv
       live true l e h = absurd (not-25 (ends st normal) tt h)
       live false l e h =
           let o = getD code (st .process .place) noOp in
-          record { live = l; inside = leb-false (length code) (st .process .place) e; recv = subst (Told (At (o .number))) h (op-shown code i st o .told) .1 }
+          record { live = l; inside = leb-false (length code) (st .process .place) e; recv = subst (Told (λ m. (m ≡ noFit) × (o .number ≡ recvOp))) h (op-shown code i st o .told) .1 }
 
       go : (s : Stage) → st .process .stage ≡ s → runsIn s code i st ≡ refused noFit → AtRecv
       go Unborn e h = absurd (not-25 (refused ownerUnborn) (omega arith) h)

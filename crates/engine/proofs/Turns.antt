@@ -1,81 +1,115 @@
--- What a turn does, from the turn, the process and what was decided: one law for each way. Assumes nothing.
-use mathlib.Core.Bool.{Bool, true, false, So, cond}
+-- A turn of the loop: what the decision that it takes says of the step, by the rules. Assumes nothing.
+--   Ready e        20, 21 and 23 were passed, and decision e tells the rules' answer
+--   Cleared e      and nothing refuses it but a search that finds no message
+--   turn-refused   a refusal is the rule's;  turn-cleared, turn-searching  without one the decision is cleared
+--   turn-done      a decision that searches no mailbox is committed
+--   turn-searched  where the mailbox is searched, the first fit decides
+use mathlib.Core.Bool.{Bool, true, false, not, So, cond, false≢true}
 use mathlib.Core.List.{List, [], _∷_}
+use mathlib.Core.Logic.{_⊎_, inl, inr, ⊎-elim}
 use mathlib.Core.Option.{Option, none, some}
 use mathlib.Core.Path.{_≡_, refl, sym, _∙_, ap, subst}
 use Prim.Native.Nat.{ℕ, _+_, _-_, _*_, _≤_, _<_, min}
+use native.Mathlib.Decide.{ℕ-discrete}
+use native.Mathlib.Nat.{add-zero}
 use native.Mathlib.Omega.{arith}
-use borrow.Author.Tests.{not-true, not-false, eq-eqb, ne-eqb, lt-ltb, le-ltb}
-use lib.ListN.{length, getD, set, take, drop, length-take, length-drop}
-use lib.Seq.{ext-getD, getD-take, getD-drop}
+use borrow.Author.Tests.{not-true, not-false, eq-eqb, ne-eqb, eqb-true, eqb-false, leb-true, leb-false, ltb-true, lt-ltb, le-ltb}
+use lib.Dec.{eqb, leb}
+use lib.ListN.{length, getD, take, drop, set, length-take, length-drop, length-set}
+use lib.Seq.{getD-take, getD-drop, set-getD}
+use Rattle.actions.specs.declared.Decoded.{Decoded}
+use Rattle.actions.specs.Places.{processAt, rowAt, behaviourAt, opAt}
+use Rattle.actions.proofs.Decoding.{Means}
 use Rattle.decisions.specs.declared.Decision.{Decision}
-use Rattle.decisions.specs.Answers.{mailOf, sentOf, bornOf, ran, arrived, answerOf}
-use Rattle.decisions.proofs.Meanings.{At, run-means, run-joins-none, arrival-means, arrival-quiet}
-use Rattle.node.proofs.Lists.{map-rising-at}
-use Rattle.node.specs.declared.Mailbox.{Mailbox}
+use Rattle.decisions.specs.Decided.{decidedOf, pairRefusal, birthRefusal}
+use Rattle.decisions.specs.Answers.{stateOf, refusing, sentOf, bornOf, effectOf, ran, arrived, answerOf}
+use Rattle.decisions.proofs.Meanings.{At, Only, run-means, run-only, arrival-means, arrival-quiet}
+use Rattle.node.specs.declared.Cell.{Cell}
+use Rattle.node.specs.declared.Message.{Message}
 use Rattle.node.specs.declared.Node.{Node}
 use Rattle.node.specs.declared.Op.{Op}
 use Rattle.node.specs.declared.Process.{Process}
-use Rattle.node.specs.declared.Row.{Row}
 use Rattle.node.specs.declared.Signal.{Signal}
+use Rattle.node.specs.declared.Slot.{Slot}
 use Rattle.node.specs.declared.Stage.the-variants.{Live}
-use Rattle.node.specs.Mailboxes.{joined, emptied, messages}
-use Rattle.node.specs.Nodes.{noOp, noProcess, noMailbox, noRow, pair}
-use Rattle.node.specs.Processes.{fresh}
-use Rattle.node.specs.Rows.{oldest, pushed, popped}
+use Rattle.node.specs.Blocks.{Shelf, blockOf, changed, joined, up, left, popped, emptied}
+use Rattle.node.specs.Mailboxes.{noMessage, messages, slotOf}
+use Rattle.node.specs.Nodes.{noOp, noProcess, pair, mailShelf, flightShelf}
+use Rattle.node.specs.Ops.{recvOp}
+use Rattle.node.specs.Processes.{fresh, moved}
+use Rattle.node.specs.Rows.{noSignal, cellOf, oldest}
 use Rattle.node.specs.Values.{pid, isNumber}
-use Rattle.receive.specs.declared.Received.{Received}
-use Rattle.receive.specs.Answers.{stateOf, received}
-use Rattle.receive.proofs.Laws.{received-refused, received-done}
-use Rattle.rules.specs.Answers.{refused, done}
-use Rattle.rules.specs.Effects.{Effect}
+use Rattle.node.proofs.Contents.{messages-length, messages-at, signals-length}
+use Rattle.rules.specs.Answers.{Answer, refused, done, badNumber, ownerUnborn, noneInFlight, noFit, pairFull, notUnborn}
+use Rattle.rules.specs.Effects.{State, unchanged, joining, leaving, Effect, Sending, Birth}
 use Rattle.rules.specs.Nodes.{Sound, behavioursOf, code, process, mailbox, row}
-use Rattle.rules.specs.Receive.{Fit, search, receivesFit, receives}
+use Rattle.rules.specs.Receive.{Fit, fits, firstClause, search, withMessage, receivesFit, receives}
 use Rattle.rules.specs.Run.{runs}
-use Rattle.rules.specs.Steps.{Action, run, arrive, owner, isUnborn, numbered, ownerBorn, signalWaits, pairHasRoom, numberFree, incoming, decide, rule}
+use Rattle.rules.specs.Steps.{Action, run, arrive, owner, isUnborn, numbered, ownerBorn, signalWaits, pairHasRoom, numberFree, incoming, decide, withArrival, withSending, withMail}
+use Rattle.rules.specs.Steps.{withoutMail, withBirth, commit, rule}
 use Rattle.rules.proofs.Commute.{incoming-oldest}
-use Rattle.rules.proofs.Keeps.{Keeps, NotBoth}
+use Rattle.receive.proofs.Laws.{message-turn, message-end, clause-hit, clause-miss, clause-end}
+use Rattle.rules.proofs.Living.{alive}
+use Rattle.rules.proofs.Keeps.{MailOk, Keeps, NotBoth}
 use Rattle.rules.proofs.Commits.{Parts, parts-of, decided-keeps, owner-number}
-use Rattle.rules.proofs.Paths.{behaviour-bounds, code-length, code-bound, code-at, recv-bounds, rule-20, rule-21, rule-23, rule-undecided, rule-26, rule-27, rule-done, stored, commit-plain, commit-received, commit-sent, commit-born, commit-dropped, commit-joined}
+use Rattle.rules.proofs.Paths.{behaviour-bounds, code-length, code-bound, code-at, recv-bounds, rule-20, rule-21, rule-23, rule-undecided, rule-26, rule-27, rule-done}
 use Rattle.rules.proofs.Records.{number-bounds}
-use Rattle.actions.proofs.Decoding.{Means}
-use Rattle.actions.specs.declared.Decoded.{Decoded}
-use Rattle.actions.specs.Places.{processAt, rowAt, behaviourAt}
-use Rattle.actions.specs.Places as places
+use Rattle.rules.proofs.Shape.{Sized}
+use Rattle.node.proofs.Blocks.{Room, whole as whole-block, changed-comm, changed-same, joined-keeps, popped-keeps, popped-joined}
+use Rattle.engine.specs.Stores.{cellAt}
+use Rattle.engine.proofs.Changes.{searchedOf, waitingNext, sentNext, cellNext, slotNext}
 use Rattle.engine.proofs.Recv.{AtRecv, only-recv}
+use Rattle.engine.proofs.Stores.{up-end, movedUp, store-joined, store-left, store-emptied, store-popped}
 
--- ---- the code of a process
+-- ---- a signal, and a search
+
+-- the oldest signal of pair k stands at the first of its cells
+oldest-at : (n : Node) (k : ℕ) → oldest (blockOf 4 k (flightShelf n)) ≡ getD (n .cells) (4 * k) noSignal .signal
+unfolding oldest
+oldest-at n k =
+    ap (λ (c : Cell). c .signal) (getD-take 4 (drop (4 * k) (n .cells)) 0 noSignal (omega arith) ∙ getD-drop (4 * k) (n .cells) 0 noSignal ∙ ap (λ (x : ℕ). getD (n .cells) x noSignal)
+    (add-zero (4 * k)))
+
+-- the cell behind the signals of a row that has room
+cell-place : (y c : ℕ) → y < 256 → c < 4 → 4 * y + c ≡ cellAt y c
+cell-place y c h g = omega arith
+
+-- clauses stand from x + 1 on, s of them
+clause-inside : (x c s : ℕ) → x + 1 ≤ c → c < min (x + 1 + s) 256 → (c - (x + 1) < s) × (x + 1 + (c - (x + 1)) ≡ c)
+clause-inside x c s h g = (omega arith, omega arith)
+
+clause-beyond : (x c s : ℕ) → x + 1 + s ≤ 256 → min (x + 1 + s) 256 ≤ c → s ≤ c - (x + 1)
+clause-beyond x c s h g = omega arith
+
+next-clause : (x c : ℕ) → x + 1 ≤ c → c - (x + 1) + 1 ≡ c + 1 - (x + 1)
+next-clause x c h = omega arith
+
+next-slot : (f s : ℕ) → f ≤ s → s - f + 1 ≡ s + 1 - f
+next-slot f s h = omega arith
+
+-- a count that has room is a byte
+byte-more : (c : ℕ) → c < 4 → (c + 1 ≡ min (c + 1) 255) × (c < 255)
+byte-more c h = (omega arith, omega arith)
+
+-- ---- the code of a live process
 
 module _ (n : Node) (p : Process) where
-  -- the op that is read k places behind that of the process; an index is held within the array
-  abbrev pub opAt : ℕ → Op
-  opAt k = getD (n .ops) (places.opAt (p .behaviour .0) (p .place) k) noOp
+  -- where the op at the place of the process is read
+  abbrev pub placeAt : ℕ
+  placeAt = opAt (p .behaviour .0) (p .place)
 
-  abbrev pub lengthAt : ℕ
-  lengthAt = getD (n .lens) (behaviourAt (p .behaviour .0)) 0
-
-  -- the op and the length that are read are those of its code
+  -- the length and the op that are read are those of its code
   abbrev pub Stands : Type 0
-  Stands = At (code n (p .behaviour .0)) lengthAt (p .place) (opAt 0)
+  Stands = At (code n (p .behaviour .0)) (getD (n .lens) (behaviourAt (p .behaviour .0)) 0) (p .place) (getD (n .ops) placeAt noOp)
 
-  abbrev pub eight : List Op
-  eight = opAt 1 ∷ opAt 2 ∷ opAt 3 ∷ opAt 4 ∷ opAt 5 ∷ opAt 6 ∷ opAt 7 ∷ opAt 8 ∷ []
+  -- the clauses of the recv that it is at, and where they are read
+  abbrev pub clausesOf : List Op
+  clausesOf = take (getD (n .ops) placeAt noOp .small) (drop (p .place + 1) (code n (p .behaviour .0)))
 
-  -- the ops at eight indices, as they are read
-  abbrev pub opIs : ℕ → ℕ → Type 0
-  opIs k x = x ≡ places.opAt (p .behaviour .0) (p .place) k
-
-  pub op-read : (k x : ℕ) → opIs k x → getD (n .ops) x noOp ≡ opAt k
-  op-read k x h = ap (λ (y : ℕ). getD (n .ops) y noOp) h
-
-  abbrev eightOf : (a b c d e f g h : Op) → List Op
-  eightOf a b c d e f g h = a ∷ b ∷ c ∷ d ∷ e ∷ f ∷ g ∷ h ∷ []
-
-  pub eight-read : {a b c d e f g h : Op} → a ≡ opAt 1 → b ≡ opAt 2 → c ≡ opAt 3 → d ≡ opAt 4 → e ≡ opAt 5 → f ≡ opAt 6 → g ≡ opAt 7 → h ≡ opAt 8 → eightOf a b c d e f g h ≡ eight
-  eight-read s t u v w x y z = rw (s, t, u, v, w, x, y, z)
-
-  eight-at : (k : ℕ) → k < 8 → getD eight k noOp ≡ opAt (1 + k)
-  eight-at k h = map-rising-at opAt 1 8 k noOp h
+  pub record Clauses : Type 0 where
+    pub size : length clausesOf ≡ getD (n .ops) placeAt noOp .small
+    pub within : placeAt + 1 + getD (n .ops) placeAt noOp .small ≤ 256
+    pub read : (k : ℕ) → k < length clausesOf → getD (n .ops) (placeAt + 1 + k) noOp ≡ getD clausesOf k noOp
 
 module _ (n : Node) (whole : Parts n) (i : ℕ) (number : So (isNumber i)) (live : process n i .stage ≡ Live) where
   abbrev Q : Process
@@ -90,293 +124,795 @@ module _ (n : Node) (whole : Parts n) (i : ℕ) (number : So (isNumber i)) (live
   short : length (code n b) ≤ 32
   short = code-bound n whole i number live
 
-  op-is : (k : ℕ) → Q .place + k < length (code n b) → opAt n Q k ≡ getD (code n b) (Q .place + k) noOp
+  -- the op k places behind that of the process
+  op-is : (k : ℕ) → Q .place + k < length (code n b) → getD (n .ops) (placeAt n Q + k) noOp ≡ getD (code n b) (Q .place + k) noOp
   op-is k h =
-      let x : min (32 * min (b - 1) 7 + Q .place + k) 255 ≡ 32 * (b - 1) + (Q .place + k) = omega (arith, known, short, h) in
+      let x : min (32 * min (b - 1) 7 + Q .place) 255 + k ≡ 32 * (b - 1) + (Q .place + k) = omega (arith, known, short, h) in
       rw x (sym (code-at n whole i number live (Q .place + k) h))
 
   stands-in : Stands n Q
   stands-in =
       let w : min (b - 1) 7 ≡ b - 1 = omega (arith, known) in
-      let z : Q .place + 0 ≡ Q .place = omega arith in
+      let z : Q .place + 0 ≡ Q .place = add-zero (Q .place) in
+      let y : placeAt n Q + 0 ≡ placeAt n Q = add-zero (placeAt n Q) in
       record {
         size = rw w (code-length n whole i number live);
-        op = λ h. sym (op-is 0 (omega (arith, h)) ∙ rw z);
+        op = λ h. sym (rw (y, z) at (op-is 0 (omega (arith, h))));
       }
 
-  -- the eight ops behind a recv begin with its clauses
-  module _ (inside : Q .place < length (code n b)) (recv : getD (code n b) (Q .place) noOp .number ≡ 10) where
-    abbrev size : ℕ
-    size = getD (code n b) (Q .place) noOp .small
+  clauses-in : Q .place < length (code n b) → getD (code n b) (Q .place) noOp .number ≡ recvOp → Clauses n Q
+  clauses-in inside recv =
+      let o = getD (n .ops) (placeAt n Q) noOp in
+      let same : getD (code n b) (Q .place) noOp ≡ o = stands-in .op inside in
+      let room : (o .small ≤ 8) × (Q .place + 1 + o .small ≤ length (code n b)) = rw same at (recv-bounds n whole i number live inside recv) in
+      let size : length (clausesOf n Q) ≡ o .small = length-take (o .small) (drop (Q .place + 1) (code n b)) ∙ rw (length-drop (Q .place + 1) (code n b)) (omega (arith, room)) in
+      record {
+        size = size;
+        within = omega (arith, known, short, room);
+        read = λ k h.
+            let l : k < o .small = rw size at h in
+            let e : Q .place + (1 + k) ≡ Q .place + 1 + k = omega arith in
+            let f : placeAt n Q + (1 + k) ≡ placeAt n Q + 1 + k = omega arith in
+            ap (λ (x : ℕ). getD (n .ops) x noOp) (sym f) ∙ op-is (1 + k) (omega (arith, l, room)) ∙ ap (λ (x : ℕ). getD (code n b) x noOp) e
+            ∙ sym (getD-take (o .small) (drop (Q .place + 1) (code n b)) k noOp l ∙ getD-drop (Q .place + 1) (code n b) k noOp);
+      }
 
-    room : (size ≤ 8) × (Q .place + 1 + size ≤ length (code n b))
-    room = recv-bounds n whole i number live inside recv
+-- without messages no fit is found
+none-received : (code : List Op) (st : State) → receives code (stateOf (st .process) []) (getD code (st .process .place) noOp) ≡ refused noFit
+unfolding receives
+none-received code st = refl
 
-    clauses-in : take size (eight n Q) ≡ take size (drop (Q .place + 1) (code n b))
-    clauses-in =
-        let l : length (take size (eight n Q)) ≡ size = length-take size (eight n Q) ∙ omega (arith, room) in
-        let r : length (take size (drop (Q .place + 1) (code n b))) ≡ size = length-take size (drop (Q .place + 1) (code n b)) ∙ rw (length-drop (Q .place + 1) (code n b)) (omega (arith, room)) in
-        ext-getD noOp (take size (eight n Q)) (take size (drop (Q .place + 1) (code n b))) (l ∙ sym r) (λ k h.
-        let s : k < size = rw l at h in
-        let e : Q .place + (1 + k) ≡ Q .place + 1 + k = omega arith in
-        getD-take size (eight n Q) k noOp s
-        ∙ eight-at n Q k (omega (arith, s, room))
-        ∙ op-is (1 + k) (omega (arith, s, room))
-        ∙ ap (λ (x : ℕ). getD (code n b) x noOp) e
-        ∙ sym (getD-take size (drop (Q .place + 1) (code n b)) k noOp s ∙ getD-drop (Q .place + 1) (code n b) k noOp))
+-- a node with the plan of n, of which all else is given
+abbrev pub made : Node → List Process → Shelf Slot → Shelf Cell → Node
+made n ps mail flight = record {
+  count = n .count;
+  lens = n .lens;
+  ops = n .ops;
+  processes = ps;
+  waiting = mail .counts;
+  slots = mail .cells;
+  counts = flight .counts;
+  cells = flight .cells;
+}
 
-module _ (n : Node) {a : Action} (t : Decoded) (m : Means a t) where
-  pub turn-20 : t .bad ≡ true → rule n a ≡ refused 20
-  turn-20 h = rule-20 n a (not-true (numbered a) (sym (m .bad) ∙ h))
+-- what is answered where the search of a mailbox gives f
+abbrev pub searched : Node → Action → Process → Option Fit → Answer Node
+searched n a p none = refused noFit
+searched n a p (some f) = done (commit n a (record { process = moved (withMessage p (f .clause) (f .message)) (f .clause .target); mail = leaving (f .index); sent = none; born = none }))
 
-  module _ (ok : t .bad ≡ false) where
-    numbers : So (numbered a)
-    numbers = not-false (numbered a) (sym (m .bad) ∙ ok)
+module _ (n : Node) (sound : Sound n) {a : Action} (t : Decoded) (m : Means a t) where
+  -- ---- what is read
 
-    owner-is : owner a ≡ t .owner .0
+  abbrev pub i : ℕ
+  i = t .owner .0
+
+  abbrev j : ℕ
+  j = t .from .0
+
+  abbrev pub P : Process
+  P = getD (n .processes) (t .at) noProcess
+
+  abbrev pub B : ℕ
+  B = P .behaviour .0
+
+  -- the op at the process's place, and the length of its code
+  abbrev pub O : Op
+  O = getD (n .ops) (opAt B (P .place)) noOp
+
+  abbrev pub L : ℕ
+  L = getD (n .lens) (behaviourAt B) 0
+
+  -- how many signals its row has, and the first of them
+  abbrev pub C : ℕ
+  C = getD (n .counts) (t .row) 0
+
+  abbrev pub X : Signal
+  X = getD (n .cells) (4 * t .row) noSignal .signal
+
+  -- how many messages wait, and which
+  abbrev pub W : ℕ
+  W = getD (n .waiting) (t .at) 0
+
+  abbrev pub M : List Message
+  M = messages (blockOf 16 (t .at) (mailShelf n))
+
+  pub mail-size : length M ≡ W
+  mail-size = messages-length (blockOf 16 (t .at) (mailShelf n))
+
+  whole : Parts n
+  whole = parts-of n sound
+
+  abbrev pub codeHere : List Op
+  codeHere = code n B
+
+  pub record Ready (e : Decision) : Type 0 where
+    pub numbers : So (numbered a)
+    pub awake : So (ownerBorn n a)
+    pub waits : So (signalWaits n a)
+    pub number : So (isNumber i)
+    pub owned : owner a ≡ i
+    pub at : t .at ≡ i - 1
+    pub decided : decide n a ≡ answerOf codeHere i (stateOf P M) e
+    pub only : e .receives ≡ true → Only e × AtRecv codeHere i (stateOf P []) × Stands n P
+    pub births : e .spawns ≡ true → t .arrives ≡ false
+
+  Early : Decision → Type 0
+  Early e = (e .refusal ≡ 0 → ⊥) × (e .receives ≡ false) × (rule n a ≡ refused (e .refusal))
+
+  early : (e : Decision) (k : ℕ) → e ≡ refusing P k → (k ≡ 0 → ⊥) → rule n a ≡ refused k → Early e
+  unfolding Early
+  early e k s z r = ((λ h. z (rw s at h)), rw s, r ∙ rw s)
+
+  -- an unborn owner
+  asleep : t .bad ≡ false → isUnborn (P .stage) ≡ true → rule n a ≡ refused ownerUnborn
+  unfolding ownerBorn
+  asleep ok u =
+      let own : (b : Bool) → owner (cond b (arrive i j) (run i)) ≡ i = λ b. owned-by b in
+      let process-is : P ≡ process n (owner a) = rw (m .at ok, m .action ok, own (t .arrives)) in
+      rule-21 n a (not-false (numbered a) (sym (m .bad) ∙ ok)) (rw (← process-is, u))
+    where
+      owned-by : (b : Bool) → owner (cond b (arrive i j) (run i)) ≡ i
+      owned-by true = refl
+      owned-by false = refl
+
+  -- ---- 20, 21 and 23 passed
+
+  module _ (ok : t .bad ≡ false) (born : isUnborn (P .stage) ≡ false) where
+    numbers-ok : So (numbered a)
+    numbers-ok = not-false (numbered a) (sym (m .bad) ∙ ok)
+
+    owner-is : owner a ≡ i
     owner-is = rw (m .action ok) (go (t .arrives))
       where
-        go : (b : Bool) → owner (cond b (arrive (t .owner .0) (t .from .0)) (run (t .owner .0))) ≡ t .owner .0
+        go : (b : Bool) → owner (cond b (arrive i j) (run i)) ≡ i
         go true = refl
         go false = refl
 
-    process-is : getD (n .processes) (t .at) noProcess ≡ process n (owner a)
-    process-is = rw (m .at ok, owner-is)
+    at-is : t .at ≡ i - 1
+    at-is = m .at ok
 
-    pub turn-21 : isUnborn (getD (n .processes) (t .at) noProcess .stage) ≡ true → rule n a ≡ refused 21
+    process-is : P ≡ process n (owner a)
+    process-is = rw (at-is, owner-is)
+
+    awake-ok : So (ownerBorn n a)
     unfolding ownerBorn
-    turn-21 h = rule-21 n a numbers (rw (← process-is, h))
+    awake-ok = rw (← process-is, born)
 
-    module _ (born : isUnborn (getD (n .processes) (t .at) noProcess .stage) ≡ false) where
-      awake : So (ownerBorn n a)
-      unfolding ownerBorn
-      awake = rw (← process-is, born)
+    number-ok : So (isNumber i)
+    number-ok = rw owner-is at (owner-number a numbers-ok)
 
-      abbrev i : ℕ
-      i = t .owner .0
+    none-waits : t .arrives ≡ true → eqb C 0 ≡ true → rule n a ≡ refused noneInFlight
+    unfolding signalWaits
+    none-waits arr q =
+        let action : a ≡ arrive i j = m .action ok ∙ rw arr in
+        let count : length (row n j i) ≡ 0 = signals-length (blockOf 4 (pair j i) (flightShelf n)) ∙ rw (← m .row ok arr) (eqb-true C 0 q) in
+        rule-23 n a numbers-ok awake-ok (rw (action, count))
 
-      abbrev j : ℕ
-      j = t .from .0
+    arrival-ready : t .arrives ≡ true → eqb C 0 ≡ false → (e : Decision) → e ≡ arrived (t .owner) (t .from) P W X → Ready e
+    unfolding signalWaits decide
+    arrival-ready arr there e s =
+        let action : a ≡ arrive i j = m .action ok ∙ rw arr in
+        let row-is : t .row ≡ pair j i = m .row ok arr in
+        let count : length (row n j i) ≡ C = signals-length (blockOf 4 (pair j i) (flightShelf n)) ∙ rw row-is in
+        let waiting : 0 < length (row n j i) = rw count (let z = eqb-false C 0 there in omega arith) in
+        let first : incoming n j i ≡ X = incoming-oldest n j i waiting ∙ rw row-is (oldest-at n (pair j i)) in
+        let means : answerOf codeHere i (stateOf P M) e ≡ answerOf codeHere i (stateOf P M) (arrived (t .owner) (t .from) P (length M) X) = rw (s, mail-size) in
+        record {
+          numbers = numbers-ok;
+          awake = awake-ok;
+          waits = rw action (lt-ltb 0 (length (row n j i)) waiting);
+          number = number-ok;
+          owned = owner-is;
+          at = at-is;
+          decided = rw (action, first, ← at-is) (sym (means ∙ arrival-means codeHere (t .owner) (t .from) P M X));
+          only = λ h. absurd (false≢true (sym (arrival-quiet (t .owner) (t .from) P W X .0) ∙ (rw s at h)));
+          births = λ h. absurd (false≢true (sym (arrival-quiet (t .owner) (t .from) P W X .1) ∙ (rw s at h)));
+        }
 
-      abbrev P : Process
-      P = getD (n .processes) (t .at) noProcess
+    here : P ≡ process n i
+    here = rw at-is
 
-      abbrev M : Mailbox
-      M = getD (n .mail) (t .at) noMailbox
+    -- where the process is live, its op and its length are those of its code
+    stands : P .stage ≡ Live → Stands n P
+    stands = subst (λ (p : Process). p .stage ≡ Live → Stands n p) (sym here) (stands-in n whole i number-ok)
 
-      abbrev R : Row
-      R = getD (n .flight) (t .row) noRow
+    run-ready : t .arrives ≡ false → (e : Decision) → e ≡ ran (t .owner) P L O → Ready e
+    unfolding signalWaits decide
+    run-ready arr e s =
+        let action : a ≡ run i = m .action ok ∙ rw arr in
+        let answers : (b : List Message) → answerOf codeHere i (stateOf P b) e ≡ runs codeHere i (stateOf P b) = λ b. ap (answerOf codeHere i (stateOf P b)) s
+        ∙ run-means codeHere (t .owner) P L O b stands in
+        record {
+          numbers = numbers-ok;
+          awake = awake-ok;
+          waits = rw action;
+          number = number-ok;
+          owned = owner-is;
+          at = at-is;
+          decided = rw (action, ← at-is) (sym (answers M));
+          only = λ h.
+              let recv = only-recv codeHere i (stateOf P []) (sym (answers []) ∙ rw h (none-received codeHere (stateOf P []))) in
+              (subst Only (sym s) (run-only (t .owner) P L O (rw s at h)), recv, stands (recv .live));
+          births = λ h. arr;
+        }
 
-      at-is : t .at ≡ i - 1
-      at-is = m .at ok
+  -- ---- the decision
 
-      -- ---- an arrival
+  abbrev pub Says : Decision → Type 0
+  Says e = e ≡ decidedOf t P C X L O W
 
-      module _ (arr : t .arrives ≡ true) where
-        action-is : a ≡ arrive i j
-        action-is = m .action ok ∙ rw arr
+  verdict : (e : Decision) → Says e → Early e ⊎ Ready e
+  unfolding decidedOf
+  verdict e s = bad (t .bad) refl
+    where
+      waits : (b : Bool) → (ok : t .bad ≡ false) (born : isUnborn (P .stage) ≡ false) (arr : t .arrives ≡ true) → eqb C 0 ≡ b → Early e ⊎ Ready e
+      waits true ok born arr q =
+          let says : e ≡ refusing P noneInFlight = s ∙ rw (ok, born, arr, q) in
+          inl (early e noneInFlight says (λ z. omega (arith, z)) (none-waits ok born arr q))
+      waits false ok born arr q = inr (arrival-ready ok born arr q e (s ∙ rw (ok, born, arr, q)))
 
-        row-is : R ≡ row n j i
-        row-is = rw (m .row ok arr)
+      arrives : (b : Bool) → (ok : t .bad ≡ false) (born : isUnborn (P .stage) ≡ false) → t .arrives ≡ b → Early e ⊎ Ready e
+      arrives true ok born arr = waits (eqb C 0) ok born arr refl
+      arrives false ok born arr = inr (run-ready ok born arr e (s ∙ rw (ok, born, arr)))
 
-        pub turn-23 : R .count ≡ 0 → rule n a ≡ refused 23
-        unfolding signalWaits
-        turn-23 h = let c : row n j i .count ≡ 0 = rw row-is at h in rule-23 n a numbers awake (rw (action-is, c))
+      unborn : (b : Bool) → t .bad ≡ false → isUnborn (P .stage) ≡ b → Early e ⊎ Ready e
+      unborn true ok u = inl (early e ownerUnborn (s ∙ rw (ok, u)) (λ z. omega (arith, z)) (asleep ok u))
+      unborn false ok u = arrives (t .arrives) ok u refl
 
-        module _ (some-wait : R .count ≡ 0 → ⊥) (e : Decision) (x : Signal) (old : x ≡ oldest R) (says : e ≡ arrived (t .owner) (t .from) P (M .count) x) where
-          waiting : 0 < row n j i .count
-          waiting = let z : row n j i .count ≡ 0 → ⊥ = rw row-is at some-wait in omega arith
+      bad : (b : Bool) → t .bad ≡ b → Early e ⊎ Ready e
+      bad true h = inl (early e badNumber (s ∙ rw h) (λ z. omega (arith, z)) (rule-20 n a (not-true (numbered a) (sym (m .bad) ∙ h))))
+      bad false h = unborn (isUnborn (P .stage)) h refl
 
-          waits : So (signalWaits n a)
-          unfolding signalWaits
-          waits = rw action-is (lt-ltb 0 (row n j i .count) waiting)
+  -- ---- what is told of it
 
-          -- an arrival reads no code
-          decided : decide n a ≡ answerOf [] i (stateOf P M) e
-          unfolding decide
-          decided =
-              let q : incoming n j i ≡ x = incoming-oldest n j i waiting ∙ ap oldest (sym row-is) ∙ sym old in
-              rw (action-is, q, ← at-is) (sym (arrival-means [] (t .owner) (t .from) P M x) ∙ ap (answerOf [] i (stateOf P M)) (sym says))
+  module _ (e : Decision) (says : Says e) where
+    -- where the receiver's row and the process to be brought to life are read
+    abbrev pub Y : ℕ
+    Y = rowAt i (e .to .0)
 
-          quiet-arrival : (e .receives ≡ false) × (e .sends ≡ false) × (e .spawns ≡ false)
-          quiet-arrival = subst (λ (z : Decision). (z .receives ≡ false) × (z .sends ≡ false) × (z .spawns ≡ false)) (sym says) (arrival-quiet (t .owner) (t .from) P (M .count) x)
+    abbrev pub Z : ℕ
+    Z = processAt (e .number .0)
 
-          pub turn-refused : (e .refusal ≡ 0 → ⊥) → rule n a ≡ refused (e .refusal)
-          turn-refused h = rule-undecided n a numbers awake waits (e .refusal) (decided ∙ rw (quiet-arrival .0, ne-eqb (e .refusal) 0 h))
+    -- refusal r behind 26, and behind 27
+    abbrev pub pairTold : ℕ → ℕ
+    pairTold r = cond (e .sends) (pairRefusal r (getD (n .counts) Y 0)) r
 
-          module _ (accepted : e .refusal ≡ 0) (next : Row) (shorter : next ≡ popped R) where
-            done-arrival : decide n a ≡ done (record { process = e .process; mail = mailOf M e; sent = none; born = none })
-            done-arrival = decided ∙ rw (quiet-arrival .0, eq-eqb (e .refusal) 0 accepted, quiet-arrival .1, quiet-arrival .2)
+    abbrev pub birthTold : ℕ → ℕ
+    birthTold r = cond (e .spawns) (birthRefusal r (getD (n .processes) Z noProcess)) r
 
-            pub turn-joined : (more : Mailbox) → more ≡ joined M (e .message) → e .joins ≡ true → rule n a ≡ done (stored n (set (n .processes) (t .at) (e .process)) (set (n .mail) (t .at) more) (set (n .flight) (t .row) next))
-            unfolding pairHasRoom numberFree
-            turn-joined more q h =
-                rule-done n a numbers awake waits (record { process = e .process; mail = more; sent = none; born = none }) (done-arrival ∙ rw (h, q)) refl refl
-                ∙ rw (action-is, commit-joined n i (e .process) j more, shorter, row-is, m .row ok arr, at-is)
+    abbrev pub Judges : ℕ → Type 0
+    Judges k = k ≡ birthTold (pairTold (e .refusal))
 
-            pub turn-dropped : e .joins ≡ false → rule n a ≡ done (stored n (set (n .processes) (t .at) (e .process)) (n .mail) (set (n .flight) (t .row) next))
-            unfolding pairHasRoom numberFree
-            turn-dropped h =
-                rule-done n a numbers awake waits (record { process = e .process; mail = mailbox n i; sent = none; born = none }) (done-arrival ∙ rw (h, at-is)) refl refl
-                ∙ rw (action-is, commit-dropped n i (e .process) j, shorter, row-is, m .row ok arr, at-is)
+    is-ready : e .refusal ≡ 0 → Ready e
+    unfolding Early
+    is-ready z = ⊎-elim (λ w. absurd (w .0 z)) (λ w. w) (verdict e says)
 
-      -- ---- a run
+    -- its own refusal
+    own-refused : (e .refusal ≡ 0 → ⊥) → rule n a ≡ refused (e .refusal)
+    unfolding Early
+    own-refused z = ⊎-elim (λ w. w .2) (λ w. rule-undecided n a (w .numbers) (w .awake) (w .waits) (e .refusal) (w .decided ∙ go w (e .receives) refl)) (verdict e says)
+      where
+        go : Ready e → (b : Bool) → e .receives ≡ b → answerOf codeHere i (stateOf P M) e ≡ refused (e .refusal)
+        go w true h = absurd (z (w .only h .0 .0))
+        go w false h = rw (h, ne-eqb (e .refusal) 0 z)
 
-      abbrev B : ℕ
-      B = P .behaviour .0
+    module _ (z : e .refusal ≡ 0) where
+      abbrev ready : Ready e
+      ready = is-ready z
 
-      module _ (sound : Sound n) (arr : t .arrives ≡ false) where
-        run-is : a ≡ run i
-        run-is = m .action ok ∙ rw arr
+      module _ (quiet : e .receives ≡ false) where
+        done-with : decide n a ≡ done (effectOf i e)
+        done-with = ready .decided ∙ rw (quiet, eq-eqb (e .refusal) 0 z)
 
-        whole : Parts n
-        whole = parts-of n sound
+        keeps : Keeps (behavioursOf n) (owner a) (mailbox n (owner a)) (effectOf i e)
+        keeps = decided-keeps n a (effectOf i e) whole (ready .numbers) (ready .waits) done-with
 
-        number : So (isNumber i)
-        number = rw owner-is at (owner-number a numbers)
+        receiver : e .sends ≡ true → So (isNumber (e .to .0))
+        receiver h = (rw h at (keeps .sent)) .0
 
-        here : P ≡ process n i
-        here = rw at-is
+        pub row-at : e .sends ≡ true → Y ≡ pair i (e .to .0)
+        row-at h = let x = number-bounds i (ready .number) in let y = number-bounds (e .to .0) (receiver h) in omega (arith, x, y)
 
-        waits-run : So (signalWaits n a)
-        unfolding signalWaits
-        waits-run = rw run-is
+        child : e .spawns ≡ true → So (isNumber (e .number .0))
+        child h = (rw h at (keeps .birth)) .number
 
-        stands : P .stage ≡ Live → Stands n P
-        stands = subst (λ (p : Process). p .stage ≡ Live → Stands n p) (sym here) (stands-in n whole i number)
+        pub process-at : e .spawns ≡ true → Z ≡ e .number .0 - 1
+        process-at h = let y = number-bounds (e .number .0) (child h) in omega (arith, y)
 
-        -- what was decided, where e says what a run of such a process does
-        module _ (e : Decision) (says : e ≡ ran (t .owner) P (lengthAt n P) (opAt n P 0)) where
-          answered : (b : Mailbox) → answerOf (code n B) i (stateOf P b) e ≡ runs (code n B) i (stateOf P b)
-          answered b = ap (answerOf (code n B) i (stateOf P b)) says ∙ run-means (code n B) (t .owner) P (lengthAt n P) (opAt n P 0) stands b
+    -- ---- 26 and 27
 
-          decided-run : decide n a ≡ answerOf (code n B) i (stateOf P M) e
-          unfolding decide
-          decided-run = rw (run-is, ← at-is) (sym (answered M))
+    pub record Cleared : Type 0 where
+      pub refusal : e .refusal ≡ 0
+      pub room : e .sends ≡ true → getD (n .counts) Y 0 < 4
+      pub free : e .sends ≡ false → e .spawns ≡ true → isUnborn (getD (n .processes) Z noProcess .stage) ≡ true
 
-          joinless : e .joins ≡ false
-          joinless = ap (λ (z : Decision). z .joins) says ∙ run-joins-none (code n B) (t .owner) P (lengthAt n P) (opAt n P 0) stands
+    -- who searches the mailbox does nothing else
+    searches : e .refusal ≡ 0 → e .receives ≡ true → Only e
+    searches z h = is-ready z .only h .0
 
-          module _ (quiet : e .receives ≡ false) where
-            pub turn-22 : (e .refusal ≡ 0 → ⊥) → rule n a ≡ refused (e .refusal)
-            turn-22 h = rule-undecided n a numbers awake waits-run (e .refusal) (decided-run ∙ rw (quiet, ne-eqb (e .refusal) 0 h))
+    quiet-sends : (z : e .refusal ≡ 0) → e .sends ≡ true → e .receives ≡ false
+    quiet-sends z h = go (e .receives) refl
+      where
+        go : (b : Bool) → e .receives ≡ b → e .receives ≡ false
+        go true q = absurd (false≢true (sym (searches z q .2) ∙ h))
+        go false q = q
 
-            module _ (accepted : e .refusal ≡ 0) where
-              abbrev effect : Effect
-              effect = record { process = e .process; mail = M; sent = sentOf e; born = bornOf i e }
+    quiet-spawns : (z : e .refusal ≡ 0) → e .spawns ≡ true → e .receives ≡ false
+    quiet-spawns z h = go (e .receives) refl
+      where
+        go : (b : Bool) → e .receives ≡ b → e .receives ≡ false
+        go true q = absurd (false≢true (sym (searches z q .3) ∙ h))
+        go false q = q
 
-              done-run : decide n a ≡ done effect
-              done-run = decided-run ∙ rw (quiet, eq-eqb (e .refusal) 0 accepted, joinless)
+    pair-full : (z : e .refusal ≡ 0) → e .sends ≡ true → leb 4 (getD (n .counts) Y 0) ≡ true → rule n a ≡ refused pairFull
+    unfolding pairHasRoom
+    pair-full z h f =
+        let w = is-ready z in
+        let q = quiet-sends z h in
+        let full : 4 ≤ length (row n i (e .to .0)) = rw (signals-length (blockOf 4 (pair i (e .to .0)) (flightShelf n)), ← row-at z q h) (leb-true 4 (getD (n .counts) Y 0) f) in
+        rule-26 n a (w .numbers) (w .awake) (w .waits) (effectOf i e) (done-with z q) (rw (h, w .owned, le-ltb (length (row n i (e .to .0))) 4 full))
 
-              keeps : Keeps (behavioursOf n) (owner a) effect
-              keeps = decided-keeps n a effect whole numbers waits-run done-run
+    number-taken : (z : e .refusal ≡ 0) → e .sends ≡ false → e .spawns ≡ true → isUnborn (getD (n .processes) Z noProcess .stage) ≡ false → rule n a ≡ refused notUnborn
+    unfolding pairHasRoom numberFree
+    number-taken z s h f =
+        let w = is-ready z in
+        let q = quiet-spawns z h in
+        rule-27 n a (w .numbers) (w .awake) (w .waits) (effectOf i e) (done-with z q) (rw s) (rw (h, ← process-at z q h, f))
 
-              module _ (sends : e .sends ≡ true) where
-                abbrev q : ℕ
-                q = e .to .0
+    abbrev Told : ℕ → Type 0
+    Told k = (rule n a ≡ refused k) × (k ≡ 0 → ⊥)
 
-                receiver : So (isNumber q)
-                receiver = (rw sends at (keeps .sent)) .0
+    abbrev Clear : ℕ → Type 0
+    Clear k = (k ≡ 0) × Cleared
 
-                -- where `row_index` finds the row
-                abbrev pub sentAt : ℕ
-                sentAt = rowAt i q
+    both-never : (z : e .refusal ≡ 0) → e .sends ≡ true → e .spawns ≡ true → ⊥
+    both-never z s h = rw (s, h) at (keeps z (quiet-sends z s) .apart)
 
-                abbrev pub S : Row
-                S = getD (n .flight) sentAt noRow
+    told-or-cleared : e .receives ≡ false → (k : ℕ) → Judges k → Told k ⊎ Clear k
+    unfolding pairRefusal birthRefusal
+    told-or-cleared q k g = go (ℕ-discrete (e .refusal) 0)
+      where
+        spawns : (z : e .refusal ≡ 0) → e .sends ≡ false → (b c : Bool) → e .spawns ≡ b → isUnborn (getD (n .processes) Z noProcess .stage) ≡ c → Told k ⊎ Clear k
+        spawns z s true true h u = inr (g ∙ rw (z, s, h, u), record { refusal = z; room = λ y. absurd (false≢true (sym s ∙ y)); free = λ x y. u })
+        spawns z s true false h u = let l : k ≡ notUnborn = g ∙ rw (z, s, h, u) in inl (rw l (number-taken z s h u), λ y. omega (arith, l, y))
+        spawns z s false c h u = inr (g ∙ rw (z, s, h), record { refusal = z; room = λ y. absurd (false≢true (sym s ∙ y)); free = λ x y. absurd (false≢true (sym h ∙ y)) })
 
-                row-at : sentAt ≡ pair i q
-                row-at = let x = number-bounds i number in let y = number-bounds q receiver in omega (arith, x, y)
+        alone : (z : e .refusal ≡ 0) → e .sends ≡ true → e .spawns ≡ false
+        alone z s = none (e .spawns) refl
+          where
+            none : (b : Bool) → e .spawns ≡ b → e .spawns ≡ false
+            none true h = absurd (both-never z s h)
+            none false h = h
 
-                pub turn-26 : 4 ≤ S .count → rule n a ≡ refused 26
-                unfolding pairHasRoom
-                turn-26 h =
-                    let g : 4 ≤ row n i q .count = rw row-at at h in
-                    rule-26 n a numbers awake waits-run effect done-run (rw (sends, owner-is, le-ltb (row n i q .count) 4 g))
+        sends : (z : e .refusal ≡ 0) → (b c : Bool) → e .sends ≡ b → leb 4 (getD (n .counts) Y 0) ≡ c → Told k ⊎ Clear k
+        sends z true true s f = let l : k ≡ pairFull = g ∙ rw (z, s, f, alone z s) in inl (rw l (pair-full z s f), λ y. omega (arith, l, y))
+        sends z true false s f = inr (g ∙ rw (z, s, f, alone z s), record { refusal = z; room = λ y. leb-false 4 (getD (n .counts) Y 0) f; free = λ x y. absurd (false≢true (sym x ∙ s)) })
+        sends z false c s f = spawns z s (e .spawns) (isUnborn (getD (n .processes) Z noProcess .stage)) refl refl
 
-                alone : e .spawns ≡ false
-                alone = go (e .spawns) refl (rw sends at (keeps .apart))
-                  where
-                    go : (b : Bool) → e .spawns ≡ b → NotBoth (some (record { to = q; signal = e .signal })) (cond b (some (record { number = e .number .0; process = fresh (e .behaviour) (pid i) })) none) → e .spawns ≡ false
-                    go true h x = absurd x
-                    go false h x = h
+        own : (z : e .refusal ≡ 0 → ⊥) (b c : Bool) → e .sends ≡ b → e .spawns ≡ c → k ≡ e .refusal
+        own z true true s h = g ∙ rw (s, h, ne-eqb (e .refusal) 0 z, ne-eqb (e .refusal) 0 z)
+        own z true false s h = g ∙ rw (s, h, ne-eqb (e .refusal) 0 z)
+        own z false true s h = g ∙ rw (s, h, ne-eqb (e .refusal) 0 z)
+        own z false false s h = g ∙ rw (s, h)
 
-                pub turn-sent : (S .count < 4) → (next : Row) → next ≡ pushed S (e .signal) → rule n a ≡ done (stored n (set (n .processes) (t .at) (e .process)) (n .mail) (set (n .flight) sentAt next))
-                unfolding pairHasRoom numberFree
-                turn-sent h next longer =
-                    let g : row n i q .count < 4 = rw row-at at h in
-                    rule-done n a numbers awake waits-run effect done-run (rw (sends, owner-is, lt-ltb (row n i q .count) 4 g)) (rw alone)
-                    ∙ rw (sends, alone, run-is, longer, row-at, at-is) (ap done (commit-sent n i (e .process) q (e .signal)))
+        go : Dec (e .refusal ≡ 0) → Told k ⊎ Clear k
+        go (yes z) = sends z (e .sends) (leb 4 (getD (n .counts) Y 0)) refl refl
+        go (no z) = let l : k ≡ e .refusal = own z (e .sends) (e .spawns) refl refl in inl (rw l (own-refused z), λ y. z (sym l ∙ y))
 
-              module _ (silent : e .sends ≡ false) where
-                roomy : So (pairHasRoom n (owner a) (effect .sent))
-                unfolding pairHasRoom
-                roomy = rw silent
+    pub turn-refused : e .receives ≡ false → (k : ℕ) → Judges k → (k ≡ 0 → ⊥) → rule n a ≡ refused k
+    turn-refused q k g z = ⊎-elim (λ w. w .0) (λ w. absurd (z (w .0))) (told-or-cleared q k g)
 
-                module _ (spawns : e .spawns ≡ true) where
-                  abbrev c : ℕ
-                  c = e .number .0
+    pub turn-cleared : e .receives ≡ false → (k : ℕ) → Judges k → k ≡ 0 → Cleared
+    turn-cleared q k g z = ⊎-elim (λ w. absurd (w .1 z)) (λ w. w .1) (told-or-cleared q k g)
 
-                  child : So (isNumber c)
-                  child = (rw spawns at (keeps .birth)) .number
+    -- a decision to search the mailbox is looked at no further
+    module _ (h : e .receives ≡ true) where
+      only-searches : Only e
+      unfolding Early
+      only-searches = ⊎-elim (λ w. absurd (false≢true (sym (w .1) ∙ h))) (λ w. w .only h .0) (verdict e says)
 
-                  -- where `process_index` finds the process
-                  abbrev pub childAt : ℕ
-                  childAt = processAt c
+      turn-searching : Cleared
+      turn-searching = record { refusal = only-searches .0; room = λ y. absurd (false≢true (sym (only-searches .2) ∙ y)); free = λ x y. absurd (false≢true (sym (only-searches .3) ∙ y)) }
 
-                  child-at : childAt ≡ c - 1
-                  child-at = let x = number-bounds c child in omega (arith, x)
+      pub told-as-it-is : (r : ℕ) → birthTold (pairTold r) ≡ r
+      told-as-it-is r = rw (only-searches .2, only-searches .3)
 
-                  module _ (x : ℕ) (read : x ≡ childAt) where
-                    here-child : x ≡ c - 1
-                    here-child = read ∙ child-at
+    -- ---- what is stored
 
-                    pub turn-27 : isUnborn (getD (n .processes) x noProcess .stage) ≡ false → rule n a ≡ refused 27
-                    unfolding numberFree
-                    turn-27 h = let g : isUnborn (process n c .stage) ≡ false = rw here-child at h in rule-27 n a numbers awake waits-run effect done-run roomy (rw (spawns, g))
+    -- behind the last slot that is searched, and the slot in which a message joins
+    abbrev pub top : ℕ
+    top = 16 * t .at + searchedOf W e
 
-                    pub turn-born : isUnborn (getD (n .processes) x noProcess .stage) ≡ true → (new : Process) → new ≡ fresh (e .behaviour) (pid i) → (clear : Mailbox) → clear ≡ emptied (getD (n .mail) x noMailbox) → rule n a ≡ done (stored n (set (set (n .processes) (t .at) (e .process)) x new) (set (n .mail) x clear) (n .flight))
-                    unfolding numberFree
-                    turn-born h new made clear gone =
-                        let g : isUnborn (process n c .stage) ≡ true = rw here-child at h in
-                        rule-done n a numbers awake waits-run effect done-run roomy (rw (spawns, g))
-                        ∙ rw (silent, spawns, run-is, made, gone, here-child, at-is) (ap done (commit-born n i (e .process) c (fresh (e .behaviour) (pid i))))
+    abbrev pub join : ℕ
+    join = 16 * t .at + min W 15
 
-                pub turn-plain : e .spawns ≡ false → rule n a ≡ done (stored n (set (n .processes) (t .at) (e .process)) (n .mail) (n .flight))
-                unfolding numberFree
-                turn-plain h =
-                    rule-done n a numbers awake waits-run effect done-run roomy (rw h)
-                    ∙ rw (silent, h, run-is, at-is) (ap done (commit-plain n i (e .process)))
+    -- how many signals are in flight to the receiver, and the cell behind them
+    abbrev pub sentBefore : ℕ
+    sentBefore = getD (n .counts) Y 0
 
-          module _ (waits-for : e .receives ≡ true) where
-            at-recv : AtRecv (code n B) i (stateOf P noMailbox)
-            unfolding receives messages
-            at-recv = only-recv (code n B) i (stateOf P noMailbox) (sym (answered noMailbox) ∙ rw waits-for)
+    abbrev pub sentAt : ℕ
+    sentAt = cellAt Y sentBefore
 
-            here-op : getD (code n B) (P .place) noOp ≡ opAt n P 0
-            here-op = stands (at-recv .live) .op (at-recv .inside)
+    -- the mail, where the search ended at slot k and those behind it moved up
+    abbrev pub storedMail : ℕ → Shelf Slot
+    storedMail k = record {
+      cells = set (up k top (n .slots)) join (slotNext (getD (up k top (n .slots)) join noMessage) e);
+      counts = set (n .waiting) (t .at) (waitingNext W e);
+    }
 
-            clauses-are : take (opAt n P 0 .small) (eight n P) ≡ take (opAt n P 0 .small) (drop (P .place + 1) (code n B))
-            clauses-are =
-                let r = at-recv in
-                let go = subst (λ (p : Process). p .stage ≡ Live → p .place < length (code n (p .behaviour .0)) → getD (code n (p .behaviour .0)) (p .place) noOp .number ≡ 10 → take (getD (code n (p .behaviour .0)) (p .place) noOp .small) (eight n p) ≡ take (getD (code n (p .behaviour .0)) (p .place) noOp .small) (drop (p .place + 1) (code n (p .behaviour .0)))) (sym here) (clauses-in n whole i number) in
-                rw here-op at (go (r .live) (r .inside) (r .recv))
+    abbrev pub storedFlight : Shelf Cell
+    storedFlight = record { cells = set (n .cells) sentAt (cellNext (getD (n .cells) sentAt noSignal) e); counts = set (n .counts) Y (sentNext sentBefore e) }
 
-            module _ (o : Op) (op-read : o ≡ opAt n P 0) (cs : List Op) (clauses-read : cs ≡ eight n P) where
-              abbrev fit : Option Fit
-              fit = search (take (o .small) cs) 0 (messages M)
+    -- the step is accepted: its owner becomes next, and the search ended at slot k
+    pub record Committed (next : Process) (k : ℕ) : Type 0 where
+      pub cleared : Cleared
+      pub effect : Effect
+      pub answer : rule n a ≡ done (commit n a effect)
+      pub process : effect .process ≡ next
+      pub mail : withMail (mailShelf n) (owner a - 1) (effect .mail) ≡ storedMail k
+      pub sent : effect .sent ≡ sentOf e
+      pub born : effect .born ≡ bornOf i e
 
-              decided-recv : decide n a ≡ receivesFit (stateOf P M) fit
-              unfolding receives
-              decided-recv = decided-run ∙ rw (waits-for, here-op, ← clauses-are, ← op-read, ← clauses-read)
+    no-join : e .joins ≡ false → (l : List Slot) → set l join (slotNext (getD l join noMessage) e) ≡ l
+    unfolding slotNext
+    no-join h l = rw h (set-getD l join noMessage)
 
-              module _ (g : Received) (found : g ≡ received (stateOf P M) fit) where
-                pub turn-25 : (g .refusal ≡ 0 → ⊥) → rule n a ≡ refused (g .refusal)
-                turn-25 h = rule-undecided n a numbers awake waits-run (g .refusal) (decided-recv ∙ received-refused (stateOf P M) g fit found h)
+    -- ---- the commit
 
-                pub turn-received : g .refusal ≡ 0 → rule n a ≡ done (stored n (set (n .processes) (t .at) (g .process)) (set (n .mail) (t .at) (g .mail)) (n .flight))
-                unfolding pairHasRoom numberFree
-                turn-received h =
-                    let effect : Effect = record { process = g .process; mail = g .mail; sent = none; born = none } in
-                    rule-done n a numbers awake waits-run effect (decided-recv ∙ received-done (stateOf P M) g fit found h) refl refl
-                    ∙ rw (run-is, at-is) (ap done (commit-received n i (g .process) (g .mail)))
+    module _ (clear : Cleared) where
+      abbrev cleared-ready : Ready e
+      cleared-ready = is-ready (clear .refusal)
+
+      has-room : e .receives ≡ false → (b : Bool) → e .sends ≡ b → So (pairHasRoom n (owner a) (cond b (some (record { to = e .to .0; signal = e .signal })) none))
+      unfolding pairHasRoom
+      has-room q false h = refl
+      has-room q true h =
+          let w = cleared-ready in
+          let few : length (row n i (e .to .0)) < 4 = rw (signals-length (blockOf 4 (pair i (e .to .0)) (flightShelf n)), ← row-at (clear .refusal) q h) (clear .room h) in
+          rw (w .owned) (lt-ltb (length (row n i (e .to .0))) 4 few)
+
+      is-free : e .receives ≡ false → (b c : Bool) → e .sends ≡ b → e .spawns ≡ c → So (numberFree n (cond c (some (record { number = e .number .0; process = fresh (e .behaviour) (pid i) })) none))
+      unfolding numberFree
+      is-free q b false s h = refl
+      is-free q true true s h = absurd (rw (s, h) at (keeps (clear .refusal) q .apart))
+      is-free q false true s h = rw (← process-at (clear .refusal) q h) (clear .free s h)
+
+      pub turn-done : e .receives ≡ false → rule n a ≡ done (commit n a (effectOf i e))
+      turn-done q =
+          let w = cleared-ready in
+          rule-done n a (w .numbers) (w .awake) (w .waits) (effectOf i e) (done-with (clear .refusal) q) (has-room q (e .sends) refl) (is-free q (e .sends) (e .spawns) refl refl)
+
+      -- where the mailbox is searched
+      module _ (h : e .receives ≡ true) where
+        abbrev at-recv : AtRecv codeHere i (stateOf P [])
+        at-recv = cleared-ready .only h .1
+
+        pub clauses : Clauses n P
+        clauses =
+            let same : P ≡ process n i = rw (cleared-ready .at) in
+            let go : (p : Process) → process n i ≡ p → p .stage ≡ Live → p .place < length (code n (p .behaviour .0)) → getD (code n (p .behaviour .0)) (p .place) noOp .number ≡ recvOp
+            → Clauses n p = λ p q. subst (λ (p : Process). p .stage ≡ Live → p .place < length (code n (p .behaviour .0)) → getD (code n (p .behaviour .0)) (p .place) noOp .number ≡ recvOp
+            → Clauses n p) q (λ l. clauses-in n whole i (cleared-ready .number) l) in
+            go P (sym same) (at-recv .live) (at-recv .inside) (at-recv .recv)
+
+        pub turn-searched : rule n a ≡ searched n a P (search (clausesOf n P) 0 M)
+        unfolding receives pairHasRoom numberFree
+        turn-searched =
+            let w = cleared-ready in
+            let op : getD codeHere (P .place) noOp ≡ O = w .only h .2 .op (at-recv .inside) in
+            let answer : decide n a ≡ receivesFit (stateOf P M) (search (clausesOf n P) 0 M) = w .decided ∙ rw (h, op) in
+            go (search (clausesOf n P) 0 M) answer
+          where
+            go : (f : Option Fit) → decide n a ≡ receivesFit (stateOf P M) f → rule n a ≡ searched n a P f
+            go none q = rule-undecided n a (cleared-ready .numbers) (cleared-ready .awake) (cleared-ready .waits) noFit q
+            go (some f) q = rule-done n a (cleared-ready .numbers) (cleared-ready .awake) (cleared-ready .waits) _ q refl refl
+
+        pub search-decided : decide n a ≡ receivesFit (stateOf P M) (search (clausesOf n P) 0 M)
+        unfolding receives
+        search-decided =
+            let op : getD codeHere (P .place) noOp ≡ O = cleared-ready .only h .2 .op (at-recv .inside) in
+            cleared-ready .decided ∙ rw (h, op)
+
+      -- ---- the mail
+
+      sizes : Sized n
+      sizes = whole .sized
+
+      at-bound : t .at < 16
+      at-bound = let x = number-bounds i (cleared-ready .number) in omega (arith, x, cleared-ready .at)
+
+      owner-at : owner a - 1 ≡ t .at
+      owner-at = rw (cleared-ready .owned) (sym (cleared-ready .at))
+
+      mail-room : Room 16 (t .at) (mailShelf n)
+      mail-room = record { cells = rw (sizes .mail .cells) (let x = at-bound in omega arith); counts = rw (sizes .mail .counts) at-bound }
+
+      mail-quiet : e .receives ≡ false → (b : Bool) → e .joins ≡ b → withMail (mailShelf n) (owner a - 1) (cond b (joining (e .message)) unchanged) ≡ storedMail (16 * t .at)
+      unfolding searchedOf waitingNext slotNext
+      mail-quiet q b h = go b h
+        where
+          same : up (16 * t .at) top (n .slots) ≡ n .slots
+          same = let x : top ≡ 16 * t .at + 0 = rw q in up-end (16 * t .at) top (n .slots) (omega (arith, x))
+
+          go : (b : Bool) → e .joins ≡ b → withMail (mailShelf n) (owner a - 1) (cond b (joining (e .message)) unchanged) ≡ storedMail (16 * t .at)
+          go false h =
+              let cells : set (up (16 * t .at) top (n .slots)) join (slotNext (getD (up (16 * t .at) top (n .slots)) join noMessage) e) ≡ n .slots = rw same (no-join h (n .slots)) in
+              let counts : set (n .waiting) (t .at) (waitingNext W e) ≡ n .waiting = rw (h, q) (set-getD (n .waiting) (t .at) 0) in
+              λ x. record { cells = sym cells x; counts = sym counts x }
+          go true h =
+              let room : length (mailbox n (owner a)) < 16 = rw h at (keeps (clear .refusal) q .mail) in
+              let few : W < 16 = rw (← owner-at) (rw (messages-length (blockOf 16 (owner a - 1) (mailShelf n))) at room) in
+              let place : 16 * t .at + W ≡ join = omega (arith, few) in
+              let cells : set (n .slots) (16 * t .at + W) (slotOf (e .message)) ≡ set (up (16 * t .at) top (n .slots)) join (slotNext (getD (up (16 * t .at) top (n .slots)) join noMessage) e) = rw
+              (same, h, place) in
+              let more : W + 1 ≡ min (W + 1) 255 = omega (arith, few) in
+              let counts : set (n .waiting) (t .at) (W + 1) ≡ set (n .waiting) (t .at) (waitingNext W e) = rw (h, ← more) in
+              ap (λ (k : ℕ). changed 16 (joined (slotOf (e .message))) k (mailShelf n)) owner-at
+              ∙ store-joined noMessage 16 (t .at) (mailShelf n) mail-room (slotOf (e .message)) few (omega (arith, few))
+              ∙ (λ x. record { cells = cells x; counts = counts x })
+
+      pub committed-quiet : e .receives ≡ false → Committed (e .process) (16 * t .at)
+      committed-quiet q = record {
+        cleared = clear;
+        effect = effectOf i e;
+        answer = turn-done q;
+        process = refl;
+        mail = mail-quiet q (e .joins) refl;
+        sent = refl;
+        born = refl;
+      }
+
+      pub committed-found : (h : e .receives ≡ true) (f : Fit) → search (clausesOf n P) 0 M ≡ some f → Committed (moved (withMessage P (f .clause) (f .message)) (f .clause .target))
+          (16 * t .at + f .index)
+      unfolding searchedOf waitingNext
+      committed-found h f found =
+          let effect : Effect = record { process = moved (withMessage P (f .clause) (f .message)) (f .clause .target); mail = leaving (f .index); sent = none; born = none } in
+          let only = searches (clear .refusal) h in
+          let kept = decided-keeps n a effect whole (cleared-ready .numbers) (cleared-ready .waits) (search-decided h ∙ rw found) in
+          let few : W ≤ 16 = rw (← owner-at) (rw (messages-length (blockOf 16 (owner a - 1) (mailShelf n))) at (kept .mail .1)) in
+          let here : 16 * t .at + W ≡ top = let x : top ≡ 16 * t .at + min W 16 = rw h in omega (arith, few, x) in
+          let j = 16 * t .at + f .index in
+          let cells : up j (16 * t .at + W) (n .slots) ≡ set (up j top (n .slots)) join (slotNext (getD (up j top (n .slots)) join noMessage) e) = rw here
+          (sym (no-join (only .1) (up j top (n .slots)))) in
+          let counts : set (n .waiting) (t .at) (W - 1) ≡ set (n .waiting) (t .at) (waitingNext W e) = rw (only .1, h) in
+          record {
+            cleared = clear;
+            effect = effect;
+            answer = turn-searched h ∙ rw found;
+            process = refl;
+            mail =
+                ap (λ (k : ℕ). changed 16 (left (f .index)) k (mailShelf n)) owner-at
+                ∙ store-left noMessage 16 (t .at) (mailShelf n) mail-room (f .index) few
+                ∙ (λ x. record { cells = cells x; counts = counts x });
+            sent = rw (only .2);
+            born = rw (only .3);
+          }
+
+      -- who searches is live, and has at most 16 messages
+      pub waiting-bound : e .receives ≡ true → W ≤ 16
+      waiting-bound h =
+          let same : P ≡ process n i = rw (cleared-ready .at) in
+          let live : process n i .stage ≡ Live = rw (← same) (at-recv h .live) in
+          let here = alive (behavioursOf n) i (process n i) (mailbox n i) live (whole .processes i (cleared-ready .number)) in
+          let few : length (mailbox n i) ≤ 16 = leb-true (length (mailbox n i)) 16 (here .mailed .few) in
+          rw (cleared-ready .at) (rw (messages-length (blockOf 16 (i - 1) (mailShelf n))) at few)
+
+      -- ---- the flight
+
+      row-bound : Y < 256
+      row-bound = omega arith
+
+      flight-room : (k : ℕ) → k < 256 → Room 4 k (flightShelf n)
+      flight-room k h = record { cells = rw (sizes .flight .cells) (omega arith); counts = rw (sizes .flight .counts) h }
+
+      -- what is sent stands behind the others of its row
+      sent-stored : withSending (flightShelf n) (owner a) (sentOf e) ≡ storedFlight
+      unfolding sentNext cellNext
+      sent-stored = go (e .sends) refl
+        where
+          go : (b : Bool) → e .sends ≡ b → withSending (flightShelf n) (owner a) (cond b (some (record { to = e .to .0; signal = e .signal })) none) ≡ storedFlight
+          go false h =
+              let cells : storedFlight .cells ≡ n .cells = rw h (set-getD (n .cells) sentAt noSignal) in
+              let counts : storedFlight .counts ≡ n .counts = rw h (set-getD (n .counts) Y 0) in
+              λ x. record { cells = sym cells x; counts = sym counts x }
+          go true h =
+              let few : sentBefore < 4 = clear .room h in
+              let here : pair (owner a) (e .to .0) ≡ Y = rw (cleared-ready .owned) (sym (row-at (clear .refusal) (quiet-sends (clear .refusal) h) h)) in
+              let place : 4 * Y + sentBefore ≡ sentAt = cell-place Y sentBefore row-bound few in
+              let more = byte-more sentBefore few in
+              let cells : set (n .cells) (4 * Y + sentBefore) (cellOf (e .signal)) ≡ storedFlight .cells = ap (λ (j : ℕ). set (n .cells) j (cellOf (e .signal))) place ∙ rw h in
+              let counts : set (n .counts) Y (sentBefore + 1) ≡ storedFlight .counts = rw (h, ← more .0) in
+              ap (λ (k : ℕ). changed 4 (joined (cellOf (e .signal))) k (flightShelf n)) here
+              ∙ store-joined noSignal 4 Y (flightShelf n) (flight-room Y row-bound) (cellOf (e .signal)) few (more .1)
+              ∙ (λ x. record { cells = cells x; counts = counts x })
+
+      -- ---- the node
+
+      ok : t .bad ≡ false
+      ok = m .bad ∙ rw (cleared-ready .numbers)
+
+      -- a signal leaves one row and one joins another, or the same, in any order
+      leaves-joins : (r : ℕ) → r < 256 → 0 < getD (n .counts) r 0 → changed 4 (popped noSignal) r (withSending (flightShelf n) (owner a) (sentOf e))
+          ≡ withSending (changed 4 (popped noSignal) r (flightShelf n)) (owner a) (sentOf e)
+      leaves-joins r h g = go (e .sends) refl
+        where
+          x : Cell
+          x = cellOf (e .signal)
+
+          to : ℕ
+          to = pair (owner a) (e .to .0)
+
+          go : (b : Bool) → e .sends ≡ b → changed 4 (popped noSignal) r (withSending (flightShelf n) (owner a) (cond b (some (record { to = e .to .0; signal = e .signal })) none))
+              ≡ withSending (changed 4 (popped noSignal) r (flightShelf n)) (owner a) (cond b (some (record { to = e .to .0; signal = e .signal })) none)
+          go false q = refl
+          go true q = same (ℕ-discrete r to)
+            where
+              here : to ≡ Y
+              here = rw (cleared-ready .owned) (sym (row-at (clear .refusal) (quiet-sends (clear .refusal) q) q))
+
+              same : Dec (r ≡ to) → changed 4 (popped noSignal) r (changed 4 (joined x) to (flightShelf n)) ≡ changed 4 (joined x) to (changed 4 (popped noSignal) r (flightShelf n))
+              same (no d) = changed-comm 4 (popped noSignal) (joined x) (popped-keeps noSignal) (joined-keeps x) (flightShelf n) r to d
+              same (yes d) =
+                  let few : getD (n .counts) r 0 < 4 = rw (d ∙ here) (clear .room q) in
+                  let room = flight-room r h in
+                  let size : length (blockOf 4 r (flightShelf n) .cells) ≡ 4 = whole-block 4 r (flightShelf n) room in
+                  rw (← d) (changed-same 4 (popped noSignal) (joined x) (popped-keeps noSignal) (joined-keeps x) (flightShelf n) r room (popped-joined noSignal x (blockOf 4 r (flightShelf n)) g
+                  (rw size few) (byte-more (getD (n .counts) r 0) few .1)))
+
+      no-birth : e .spawns ≡ false → bornOf i e ≡ none
+      no-birth h = rw h
+
+      birth : e .spawns ≡ true → bornOf i e ≡ some (record { number = e .number .0; process = fresh (e .behaviour) (pid i) })
+      birth h = rw h
+
+      module _ {next : Process} {k : ℕ} (w : Committed next k) where
+        processes-stored : e .spawns ≡ false → set (n .processes) (t .at) next ≡ withBirth (set (n .processes) (owner a - 1) (w .effect .process)) (w .effect .born)
+        processes-stored h = rw (w .born ∙ no-birth h, w .process, owner-at)
+
+        mail-stored : e .spawns ≡ false → storedMail k ≡ withoutMail (withMail (mailShelf n) (owner a - 1) (w .effect .mail)) (w .effect .born)
+        mail-stored h = sym (ap (withoutMail (withMail (mailShelf n) (owner a - 1) (w .effect .mail))) (w .born ∙ no-birth h) ∙ w .mail)
+
+        flight-stored : t .arrives ≡ false → storedFlight ≡ withSending (withArrival (flightShelf n) a) (owner a) (w .effect .sent)
+        flight-stored arr =
+            let action : a ≡ run i = m .action ok ∙ rw arr in
+            sym (ap (λ (s : Shelf Cell). withSending s (owner a) (w .effect .sent)) (ap (withArrival (flightShelf n)) action) ∙ ap (withSending (flightShelf n) (owner a)) (w .sent) ∙ sent-stored)
+
+        pub stored-run : t .arrives ≡ false → e .spawns ≡ false → made n (set (n .processes) (t .at) next) (storedMail k) storedFlight ≡ commit n a (w .effect)
+        unfolding commit
+        stored-run arr h = λ x. made n (processes-stored h x) (mail-stored h x) (flight-stored arr x)
+
+        pub stored-birth : e .spawns ≡ true → made n (set (set (n .processes) (t .at) next) Z (fresh (e .behaviour) (pid i)))
+            (record { cells = storedMail k .cells; counts = set (storedMail k .counts) Z 0 }) storedFlight ≡ commit n a (w .effect)
+        unfolding commit
+        stored-birth h =
+            let here : Z ≡ e .number .0 - 1 = process-at (clear .refusal) (quiet-spawns (clear .refusal) h) h in
+            let processes : set (set (n .processes) (t .at) next) Z (fresh (e .behaviour) (pid i)) ≡ withBirth (set (n .processes) (owner a - 1) (w .effect .process)) (w .effect .born) = rw
+            (w .born ∙ birth h, w .process, owner-at, here) in
+            let mail : record { cells = storedMail k .cells; counts = set (storedMail k .counts) Z 0 } ≡ withoutMail (withMail (mailShelf n) (owner a - 1) (w .effect .mail)) (w .effect .born) =
+            sym (store-emptied noMessage 16 Z (storedMail k)) ∙ ap (λ (j : ℕ). changed 16 emptied j (storedMail k)) here
+            ∙ sym (ap (withoutMail (withMail (mailShelf n) (owner a - 1) (w .effect .mail))) (w .born ∙ birth h) ∙ ap (changed 16 emptied (e .number .0 - 1)) (w .mail)) in
+            λ x. made n (processes x) (mail x) (flight-stored (cleared-ready .births h) x)
+
+        pub stored-arrival : t .row < 256 → t .arrives ≡ true → e .spawns ≡ false → made n (set (n .processes) (t .at) next) (storedMail k)
+            (record { cells = movedUp noSignal (4 * t .row) (storedFlight .cells); counts = set (storedFlight .counts) (t .row) (getD (storedFlight .counts) (t .row) 0 - 1) }) ≡ commit n a (w .effect)
+        unfolding commit signalWaits
+        stored-arrival bound arr h =
+            let action : a ≡ arrive i j = m .action ok ∙ rw arr in
+            let row-is : t .row ≡ pair j i = m .row ok arr in
+            let waits : 0 < length (row n j i) = ltb-true 0 (length (row n j i)) (rw action at (cleared-ready .waits)) in
+            let held : 0 < getD (n .counts) (t .row) 0 = rw row-is (rw (signals-length (blockOf 4 (pair j i) (flightShelf n))) at waits) in
+            let cells : length (storedFlight .cells) ≡ 1024 = length-set (n .cells) sentAt _ ∙ sizes .flight .cells in
+            let counts : length (storedFlight .counts) ≡ 256 = length-set (n .counts) Y _ ∙ sizes .flight .counts in
+            let room : Room 4 (t .row) storedFlight = record { cells = rw cells (omega (arith, bound)); counts = rw counts bound } in
+            let flight : record { cells = movedUp noSignal (4 * t .row) (storedFlight .cells); counts = set (storedFlight .counts) (t .row) (getD (storedFlight .counts) (t .row) 0 - 1) }
+            ≡ withSending (withArrival (flightShelf n) a) (owner a) (w .effect .sent) =
+            sym (store-popped noSignal (t .row) storedFlight room)
+            ∙ ap (changed 4 (popped noSignal) (t .row)) (sym sent-stored)
+            ∙ leaves-joins (t .row) bound held
+            ∙ ap (λ (r : ℕ). withSending (changed 4 (popped noSignal) r (flightShelf n)) (owner a) (sentOf e)) row-is
+            ∙ ap (λ (c : Action). withSending (withArrival (flightShelf n) c) (owner a) (sentOf e)) (sym action)
+            ∙ ap (withSending (withArrival (flightShelf n) a) (owner a)) (sym (w .sent)) in
+            λ x. made n (processes-stored h x) (mail-stored h x) (flight x)
+
+    -- ---- the search: slot k is looked at, and of its clauses the one at c
+
+    abbrev firstFit : Option Fit
+    firstFit = search (clausesOf n P) 0 M
+
+    -- the messages from the k-th on are left
+    abbrev pub AtMessage : ℕ → Type 0
+    AtMessage k = firstFit ≡ search (clausesOf n P) k (drop k M)
+
+    -- of message x, the k-th, the clauses from the c-th on are left
+    abbrev pub AtClause : ℕ → ℕ → Message → Type 0
+    AtClause k c x = firstFit ≡ firstClause (drop c (clausesOf n P)) k x (search (clausesOf n P) (k + 1) (drop (k + 1) M))
+
+    -- what is known of a refusal k, with a next process and the slot where the search ended
+    abbrev pub Verdict : ℕ → Process → ℕ → Type 0
+    Verdict k next j = ((k ≡ 0 → ⊥) × (rule n a ≡ refused k)) ⊎ ((k ≡ 0) × Committed next j)
+
+    -- a slot is looked at only where the mailbox is searched
+    looked : (k : ℕ) → 16 * t .at ≤ k → k < top → e .receives ≡ true
+    unfolding searchedOf
+    looked k h g = go (e .receives) refl
+      where
+        go : (b : Bool) → e .receives ≡ b → e .receives ≡ true
+        go true q = q
+        go false q = let x : top ≡ 16 * t .at + 0 = rw q in absurd (omega (arith, x, h, g))
+
+    looked-bound : (k : ℕ) → 16 * t .at ≤ k → k < top → (k - 16 * t .at < W) × (k - 16 * t .at < 16) × (16 * t .at + (k - 16 * t .at) ≡ k)
+    unfolding searchedOf
+    looked-bound k h g =
+        let x : top ≡ 16 * t .at + min W 16 = rw (looked k h g) in
+        (omega (arith, x, h, g), omega (arith, x, h, g), omega (arith, h))
+
+    pub message-at : (k : ℕ) → 16 * t .at ≤ k → k < top → AtMessage (k - 16 * t .at) → AtClause (k - 16 * t .at) 0 (getD (n .slots) k noMessage .message)
+    message-at k h g v =
+        let b = looked-bound k h g in
+        let box = blockOf 16 (t .at) (mailShelf n) in
+        let j = k - 16 * t .at in
+        let read : getD M j (noMessage .message) ≡ getD (n .slots) k noMessage .message =
+        messages-at box j (b .0)
+        ∙ ap (λ (s : Slot). s .message) (getD-take 16 (drop (16 * t .at) (n .slots)) j noMessage (b .1) ∙ getD-drop (16 * t .at) (n .slots) j noMessage ∙ ap (λ (i : ℕ). getD (n .slots) i noMessage)
+        (b .2)) in
+        rw read at (message-turn M (clausesOf n P) j (noMessage .message) (rw mail-size (b .0)) v)
+
+    -- its clauses stand behind the op
+    clauses-at : (s : ℕ) → 16 * t .at ≤ s → s < top → Clauses n P
+    clauses-at s h g = let q = looked s h g in clauses (turn-searching q) q
+
+    clause-read : (s c : ℕ) → 16 * t .at ≤ s → s < top → placeAt n P + 1 ≤ c → c < min (placeAt n P + 1 + O .small) 256 → (c - (placeAt n P + 1) < length (clausesOf n P))
+        × (getD (n .ops) c noOp ≡ getD (clausesOf n P) (c - (placeAt n P + 1)) noOp)
+    clause-read s c h g l u =
+        let w = clauses-at s h g in
+        let inside = clause-inside (placeAt n P) c (O .small) l u in
+        let here : c - (placeAt n P + 1) < length (clausesOf n P) = rw (w .size) (inside .0) in
+        (here, ap (λ (j : ℕ). getD (n .ops) j noOp) (sym (inside .1)) ∙ w .read (c - (placeAt n P + 1)) here)
+
+    module _ (s c : ℕ) (from : 16 * t .at ≤ s) (below : s < top) (low : placeAt n P + 1 ≤ c) where
+      abbrev msg : Message
+      msg = getD (n .slots) s noMessage .message
+
+      abbrev later : Option Fit
+      later = search (clausesOf n P) (s - 16 * t .at + 1) (drop (s - 16 * t .at + 1) M)
+
+      module _ (high : c < min (placeAt n P + 1 + O .small) 256) where
+        pub found : fits (getD (n .ops) c noOp) msg ≡ true → AtClause (s - 16 * t .at) (c - (placeAt n P + 1)) msg
+            → Committed (moved (withMessage P (getD (n .ops) c noOp) msg) (getD (n .ops) c noOp .target)) s
+        found f v =
+            let r = clause-read s c from below low high in
+            let q = looked s from below in
+            let hit = clause-hit (clausesOf n P) (s - 16 * t .at) (c - (placeAt n P + 1)) msg later (r .0) (rw (r .1) at f) v in
+            let done-at = committed-found (turn-searching q) q _ hit in
+            subst (λ (o : Op). Committed (moved (withMessage P o msg) (o .target)) s) (sym (r .1)) (subst (Committed _) (looked-bound s from below .2) done-at)
+
+        pub missed : fits (getD (n .ops) c noOp) msg ≡ false → AtClause (s - 16 * t .at) (c - (placeAt n P + 1)) msg → AtClause (s - 16 * t .at) (c + 1 - (placeAt n P + 1)) msg
+        missed f v =
+            let r = clause-read s c from below low high in
+            let e : c - (placeAt n P + 1) + 1 ≡ c + 1 - (placeAt n P + 1) = next-clause (placeAt n P) c low in
+            rw e at (clause-miss (clausesOf n P) (s - 16 * t .at) (c - (placeAt n P + 1)) msg later (r .0) (rw (r .1) at f) v)
+
+      pub passed : min (placeAt n P + 1 + O .small) 256 ≤ c → AtClause (s - 16 * t .at) (c - (placeAt n P + 1)) msg → AtMessage (s + 1 - 16 * t .at)
+      passed high v =
+          let w = clauses-at s from below in
+          let all : length (clausesOf n P) ≤ c - (placeAt n P + 1) = rw (w .size) (clause-beyond (placeAt n P) c (O .small) (w .within) high) in
+          let e : s - 16 * t .at + 1 ≡ s + 1 - 16 * t .at = next-slot (16 * t .at) s from in
+          rw e at (clause-end (clausesOf n P) (s - 16 * t .at) (c - (placeAt n P + 1)) msg later all v)
+
+    -- no message was found
+    pub unfound : (q : e .receives ≡ true) (s : ℕ) → top ≤ s → AtMessage (s - 16 * t .at) → rule n a ≡ refused noFit
+    unfolding searchedOf
+    unfound q s above v =
+        let x : top ≡ 16 * t .at + min W 16 = rw q in
+        let few : W ≤ 16 = waiting-bound (turn-searching q) q in
+        let all : length M ≤ s - 16 * t .at = rw mail-size (omega (arith, x, few, above)) in
+        let none-fits : firstFit ≡ none = message-end M (clausesOf n P) (s - 16 * t .at) (noMessage .message) all v in
+        turn-searched (turn-searching q) q ∙ rw none-fits
+
+    -- nothing was looked for
+    pub unsought : e .receives ≡ false → (k : ℕ) → Judges k → Verdict k (e .process) (16 * t .at)
+    unsought q k g = go (ℕ-discrete k 0)
+      where
+        go : Dec (k ≡ 0) → Verdict k (e .process) (16 * t .at)
+        go (no z) = inl (z, turn-refused q k g z)
+        go (yes z) = inr (z, committed-quiet (turn-cleared q k g z) q)

@@ -3,15 +3,21 @@
 --   steppedBy n a   the answer of a step of node n: a refusal leaves the node
 --   suggestionOf s  the answer of a suggestion: 31, a step, or none
 --   possibleStep k  step k of the 272 possible ones, in the order of `possible`
+--   firstOf n l     how many steps of l come before the first that node n would accept
+--   possibleNumbers the numbers of all possible steps
 use mathlib.Core.Bool.{cond}
+use mathlib.Core.List.{List, [], _∷_, map}
 use mathlib.Core.Option.{Option, none, some}
 use Prim.Native.Nat.{ℕ, _+_, _/_, _%_}
 use lib.Dec.{eqb}
+use Rattle.actions.specs.Numbers.{encode}
 use Rattle.node.specs.declared.Node.{Node}
 use Rattle.node.specs.declared.Step.{Step}
+use Rattle.node.specs.Lists.{rising}
 use Rattle.rules.specs.Answers.{Answer, refused, done, notSound}
 use Rattle.rules.specs.Steps.{Action, meaning}
 use Rattle.rules.specs.Steps as steps
+use Rattle.rules.specs.Suggest.{acceptable}
 use Rattle.engine.specs.declared.Played.{Played}
 use Rattle.engine.specs.declared.Stepped.{Stepped}
 use Rattle.engine.specs.declared.Suggestion.{Suggestion}
@@ -32,3 +38,10 @@ suggestionOf Nothing = done none
 -- by owner, its run, then its arrivals by sender
 unfoldable pub possibleStep : ℕ → Step
 possibleStep k = record { kind = cond (eqb (k % 17) 0) 0 1; owner = record { 0 = k / 17 + 1 }; from = record { 0 = k % 17 } }
+
+abbrev pub firstOf : Node → List Action → ℕ
+firstOf n [] = 0
+firstOf n (a ∷ l) = cond (acceptable n a) 0 (firstOf n l + 1)
+
+unfoldable pub possibleNumbers : List ℕ
+possibleNumbers = map (λ k. encode (possibleStep k)) (rising 0 272)

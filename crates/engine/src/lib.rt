@@ -1,31 +1,36 @@
-// The engine: a step, a schedule, and what to do next. One loop keeps the node in one local, decides on small values and stores in place.
+// The engine: a step, a schedule, and what to do next. One loop keeps the node in one local, reads and stores in place, and decides on small
+// values; it plays steps, or looks which of them would be accepted.
+ghost use mathlib.Core.Bool.{true, false};
 ghost use mathlib.Core.List.{map};
 ghost use mathlib.Core.Path.{_≡_};
-ghost use Prim.Native.Nat.{_<_};
+ghost use Prim.Native.Nat.{_<_, _+_, min};
 ghost use Rattle.actions.specs.Numbers.{actionOf};
 ghost use Rattle.rules.specs.Nodes.{Sound};
 ghost use Rattle.rules.specs.Steps.{meaning, step, play, played};
 ghost use Rattle.rules.specs.Suggest.{Suggests};
-ghost use Rattle.engine.specs.Answers.{playedOf, steppedBy, suggestionOf, possibleStep};
+ghost use Rattle.engine.specs.Answers.{playedOf, steppedBy, suggestionOf, possibleStep, possibleNumbers, firstOf};
+ghost use Rattle.engine.specs.Stores.{cellAt};
 use actions::behaviour_index;
 use actions::decode;
 use actions::encode;
-use actions::is_unborn;
 use actions::op_index;
 use actions::process_index;
 use actions::row_index;
-use node::BAD_NUMBER;
-use node::NONE_IN_FLIGHT;
+use decisions::birth_refusal;
+use decisions::decide;
+use decisions::pair_refusal;
+use node::Cell;
+use node::NO_FIT;
 use node::NOT_SOUND;
-use node::NOT_UNBORN;
 use node::Node;
-use node::OWNER_UNBORN;
-use node::PAIR_FULL;
 use node::Process;
 use node::ProcessNumber;
 use node::SCHEDULE_TOO_LONG;
+use node::Slot;
 use node::Step;
 use node::Value;
+use node::fallen;
+use node::risen;
 
 // What a play tells: how many steps were accepted, the refusal that ended it (0 if none), and the node then. The node stands first: with
 // no gap before it, the compiler leaves out copies of it.
@@ -57,7 +62,7 @@ pub fn step(n: Node, s: Step) -> Stepped
 {
     if soundness::sound(n) {
         let numbers = [encode(s)];
-        let r = play_core(n, &numbers);
+        let r = core(n, &numbers, false);
         let node = r.node;
         let refusal = r.refusal;
         return Stepped { node, refusal };
@@ -76,7 +81,7 @@ pub fn play(n: Node, numbers: &[u32]) -> Played
         if LONGEST < numbers.len() {
             return ended(0, SCHEDULE_TOO_LONG, n);
         }
-        return play_core(n, numbers);
+        return core(n, numbers, false);
     }
     ended(0, NOT_SOUND, n)
 }
@@ -91,22 +96,32 @@ pub fn suggest(n: Node) -> Suggestion
     Suggestion::Unsound
 }
 
-// The first of the 272 possible steps that is accepted.
+// The first of the 272 possible steps that would be accepted.
 fn first_accepted(n: Node) -> Suggestion
     requires { ⌜ Sound n ⌝ }
     ensures { λ r. ⌜ Suggests n (suggestionOf r) ⌝ }
 {
-    let mut k: u16 = 0;
-    while k < 272 {
-        let s = possible(k);
-        k += 1;
-        let numbers = [encode(s)];
-        let r = play_core(n, &numbers);
-        if r.accepted == 1 {
-            return Suggestion::Next(s);
-        }
+    let numbers = possible_numbers();
+    let r = core(n, &numbers, true);
+    let k = r.accepted;
+    if k < 272 {
+        return Suggestion::Next(possible(k as u16));
     }
     Suggestion::Nothing
+}
+
+// The numbers of all possible steps, in their order.
+fn possible_numbers() -> [u32; 272]
+    ensures { λ r. ⌜ r ≡ possibleNumbers ⌝ }
+{
+    let mut numbers = [0u32; 272];
+    let mut k: usize = 0;
+    while k < 272 {
+        let s = possible(k as u16);
+        numbers[k] = encode(s);
+        k += 1;
+    }
+    numbers
 }
 
 // Possible step k: 17 for each owner, its run and an arrival from each process.
@@ -140,11 +155,45 @@ fn ended(accepted: usize, refusal: u8, node: Node) -> Played
     }
 }
 
-// The steps of a sound node, played until one is refused. It decides on small values and stores in place, since handing the node to a
-// function for each step would copy it; this is why it is long.
-fn play_core(n: Node, numbers: &[u32]) -> Played
+// The smaller of two numbers.
+fn at_most(k: usize, limit: usize) -> usize
+    ensures { λ r. ⌜ r ≡ min k limit ⌝ }
+{
+    if k < limit {
+        return k;
+    }
+    limit
+}
+
+fn up_to(k: u8, limit: usize) -> usize
+    ensures { λ r. ⌜ r ≡ min k limit ⌝ }
+{
+    at_most(k as usize, limit)
+}
+
+// Where the clauses of the recv at x end.
+fn clauses_end(x: usize, clauses: u8) -> usize
+    requires { ⌜ x < 256 ⌝ }
+    ensures { λ r. ⌜ r ≡ min (x + 1 + clauses) 256 ⌝ }
+{
+    at_most(x + 1 + (clauses as usize), 256)
+}
+
+// The cell behind the signals of a row.
+fn cell_index(row: usize, sent: u8) -> usize
+    requires { ⌜ row < 256 ⌝ }
+    ensures { λ r. ⌜ r ≡ cellAt row sent ⌝ }
+    ensures { λ r. ⌜ r < 1024 ⌝ }
+{
+    at_most(4 * row + (sent as usize), 1023)
+}
+
+// The steps of a sound node, played until one is refused; or, where `looks` is set, looked at until one would be accepted, without a store.
+// It reads and stores in place, since handing the node to a function for each step would copy it; this is why it is long.
+fn core(n: Node, numbers: &[u32], looks: bool) -> Played
     requires { ⌜ Sound n ⌝ }
-    ensures { λ r. ⌜ playedOf r ≡ played n (map actionOf (now (numbers .entry))) ⌝ }
+    ensures { λ r. ⌜ (looks ≡ false → playedOf r ≡ played n (map actionOf (now (numbers .entry)))) ⌝ }
+    ensures { λ r. ⌜ (looks ≡ true → r .accepted ≡ firstOf n (map actionOf (now (numbers .entry)))) ⌝ }
 {
     let mut node = n;
     let mut i: usize = 0;
@@ -152,112 +201,102 @@ fn play_core(n: Node, numbers: &[u32]) -> Played
         let t = i;
         let s = decode(numbers[t]);
         i += 1;
-        if s.bad {
-            return ended(t, BAD_NUMBER, node);
-        }
         let k = s.at;
-        let o = s.owner;
+        let r = s.row;
         let p = node.processes[k];
-        if is_unborn(p) {
-            return ended(t, OWNER_UNBORN, node);
-        }
-        if s.arrives {
-            let r = s.row;
-            let row = node.flight[r];
-            if row.count == 0 {
-                return ended(t, NONE_IN_FLIGHT, node);
-            }
-            let j = s.from;
-            let signal = row.oldest();
-            let count = node.mail[k].count;
-            let e = decisions::arrive(o, j, p, count, signal);
-            if e.refusal != 0 {
-                return ended(t, e.refusal, node);
-            }
-            let q = e.process;
-            let next = row.popped();
-            node.processes[k] = q;
-            node.flight[r] = next;
-            if e.joins {
-                let message = e.message;
-                let mail = node.mail[k];
-                let more = mail.joined(message);
-                node.mail[k] = more;
-                continue;
-            }
-            continue;
-        }
         let b = p.behaviour;
-        let w = behaviour_index(b);
-        let len = node.lens[w];
-        let x = op_index(b, p.place, 0);
+        let x = op_index(b, p.place);
         let op = node.ops[x];
-        let e = decisions::run(o, p, len, op);
+        let oldest = node.cells[4 * r];
+        let signal = oldest.signal;
+        let waiting = node.waiting[k];
+        let w = behaviour_index(b);
+        let e = decide(s, p, node.counts[r], signal, node.lens[w], op, waiting);
+        let owner = s.owner;
+        let to = e.to;
+        let number = e.number;
+        let mut refusal = e.refusal;
+        let mut next = e.process;
+        let mut m = 16 * k;
+        let mut top = 16 * k;
         if e.receives {
-            let mut c = op_index(b, p.place, 1);
-            let o1 = node.ops[c];
-            c = op_index(b, p.place, 2);
-            let o2 = node.ops[c];
-            c = op_index(b, p.place, 3);
-            let o3 = node.ops[c];
-            c = op_index(b, p.place, 4);
-            let o4 = node.ops[c];
-            c = op_index(b, p.place, 5);
-            let o5 = node.ops[c];
-            c = op_index(b, p.place, 6);
-            let o6 = node.ops[c];
-            c = op_index(b, p.place, 7);
-            let o7 = node.ops[c];
-            c = op_index(b, p.place, 8);
-            let o8 = node.ops[c];
-            let clauses = [o1, o2, o3, o4, o5, o6, o7, o8];
-            let mail = node.mail[k];
-            let g = receive::receive(p, mail, clauses, op.small);
-            if g.refusal != 0 {
-                return ended(t, g.refusal, node);
+            refusal = NO_FIT;
+            top = 16 * k + up_to(waiting, 16);
+            let end = clauses_end(x, op.small);
+            'messages: while m < top {
+                let slot = node.slots[m];
+                let message = slot.message;
+                let mut c = x + 1;
+                while c < end {
+                    let clause = node.ops[c];
+                    if receive::fits(clause, message) {
+                        next = receive::taken(p, clause, message);
+                        refusal = 0;
+                        break 'messages;
+                    }
+                    c += 1;
+                }
+                m += 1;
             }
-            let q = g.process;
-            let rest = g.mail;
-            node.processes[k] = q;
-            node.mail[k] = rest;
-            continue;
-        }
-        if e.refusal != 0 {
-            return ended(t, e.refusal, node);
         }
         if e.sends {
-            let to = e.to;
-            let r = row_index(o, to);
-            let row = node.flight[r];
-            if 4 <= row.count {
-                return ended(t, PAIR_FULL, node);
-            }
-            let signal = e.signal;
-            let next = row.pushed(signal);
-            let sender = e.process;
-            node.processes[k] = sender;
-            node.flight[r] = next;
-            continue;
+            let row = row_index(owner, to);
+            refusal = pair_refusal(refusal, node.counts[row]);
         }
         if e.spawns {
-            let number = e.number;
-            let at = process_index(number);
-            let old = node.processes[at];
-            if is_unborn(old) {
-                let behaviour = e.behaviour;
-                let child = Process::fresh(behaviour, Value::Pid(o));
-                let mail = node.mail[at];
-                let none = mail.emptied();
-                let parent = e.process;
-                node.processes[k] = parent;
-                node.processes[at] = child;
-                node.mail[at] = none;
+            let child = process_index(number);
+            refusal = birth_refusal(refusal, node.processes[child]);
+        }
+        if refusal != 0 {
+            if looks {
                 continue;
             }
-            return ended(t, NOT_UNBORN, node);
+            return ended(t, refusal, node);
         }
-        let moved = e.process;
-        node.processes[k] = moved;
+        if looks {
+            return ended(t, 0, node);
+        }
+        node.processes[k] = next;
+        if e.receives {
+            node.waiting[k] = fallen(waiting);
+            while m + 1 < top {
+                let slot = node.slots[m + 1];
+                node.slots[m] = slot;
+                m += 1;
+            }
+        }
+        if e.joins {
+            let message = e.message;
+            let join = 16 * k + up_to(waiting, 15);
+            node.slots[join] = Slot { message };
+            node.waiting[k] = risen(waiting);
+        }
+        if e.sends {
+            let row = row_index(owner, to);
+            let sent = node.counts[row];
+            let y = cell_index(row, sent);
+            let signal = e.signal;
+            node.cells[y] = Cell { signal };
+            node.counts[row] = risen(sent);
+        }
+        if e.spawns {
+            let child = process_index(number);
+            let behaviour = e.behaviour;
+            node.processes[child] = Process::fresh(behaviour, Value::Pid(owner));
+            node.waiting[child] = 0;
+            continue;
+        }
+        if s.arrives {
+            let f = 4 * r;
+            let c1 = node.cells[f + 1];
+            let c2 = node.cells[f + 2];
+            let c3 = node.cells[f + 3];
+            node.cells[f] = c1;
+            node.cells[f + 1] = c2;
+            node.cells[f + 2] = c3;
+            node.cells[f + 3] = Cell::blank();
+            node.counts[r] = fallen(node.counts[r]);
+        }
     }
     ended(i, 0, node)
 }

@@ -8,11 +8,12 @@ use lib.ListN.{replicate}
 use Rattle.node.specs.declared.Message.the-variants.{Plain, Note}
 use Rattle.node.specs.declared.Signal.the-variants.{Msg, Exit, Link, Unlink}
 use Rattle.node.specs.declared.Value.the-variants.{Int, Atom}
-use Rattle.node.specs.Mailboxes.{messages, joined, without}
+use Rattle.node.specs.Blocks.{changed, joined, left, popped}
+use Rattle.node.specs.Mailboxes.{messages}
 use Rattle.node.specs.Ops.{kindsOf}
 use Rattle.node.specs.Processes.{register, withRegister, moved, advanced, linksTo}
 use Rattle.node.specs.Sets.{bitsOf, has}
-use Rattle.node.specs.Rows.{signals, oldest, pushed, popped}
+use Rattle.node.specs.Rows.{signals, oldest}
 use Rattle.node.specs.Values.{intZero, normal, killed, pid, isNumber, fitsInt}
 use Rattle.node.specs.Texts.{bytes}
 use Rattle.rules.proofs.Sample.{opOf, sample, started}
@@ -21,10 +22,10 @@ use Rattle.rules.specs.Behaviours.{operand, instruction, operandInRange, inRang
 use Rattle.rules.specs.Nodes.{unborn, live, closing, gone, sound, shaped, viewSound, view, behavioursOf, code, setOf, standing, runningSound, rowSound}
 use Rattle.rules.specs.Receive.{receives, fits}
 use Rattle.rules.specs.Run.{runs, runsLive, runsOp}
-use Rattle.rules.specs.Steps.{run, arrive, play, played, step, rule, ready, commit, incoming, decide, at, numbered, ownerBorn, signalWaits, pairHasRoom, numberFree}
+use Rattle.rules.specs.Steps.{run, arrive, play, played, step, rule, ready, commit, incoming, decide, numbered, ownerBorn, signalWaits, pairHasRoom, numberFree}
 use Rattle.text.specs.Values.{numberText, valueText}
-use Rattle.text.specs.Writing.{digitsIn, digits, intText, each, numberLine}
-use Rattle.listing_lines.specs.Lines.{valueLine, eachFrom, members, withCommas, setLine, registerLine, messageLine, mailText, standingText, signalLine, flightLine, pairText}
+use Rattle.text.specs.Writing.{digitsIn, digits, intText, numberLine, each}
+use Rattle.listing_lines.specs.Lines.{valueLine, eachFrom, members, withCommas, setLine, registerLine, messageLine, standingLines, standingText, signalLine, flightLine, pairText}
 use Rattle.listing.specs.Listing.{rowsText, listingText, listingOf}
 
 -- after run=1 three times, arrive=2,1, run=2
@@ -33,7 +34,7 @@ pub sample-listing :
     ≡
     bytes "process=1\nstage=live\nbehaviour=1\nplace=3\nr0=p2\nr1=i12\nr2=i0\nr3=i0\ntrap=0\nlinks=\nmail=0\n"
     ++ bytes "process=2\nstage=live\nbehaviour=2\nplace=2\nr0=i12\nr1=i0\nr2=i0\nr3=i0\ntrap=0\nlinks=\nmail=0\n"
-unfolding listingOf numberLine valueLine eachFrom members withCommas setLine registerLine messageLine mailText standingText signalLine flightLine pairText rowsText listingText each valueText numberText intText digits digitsIn started sample opOf play played step rule ready commit incoming decide at numbered ownerBorn signalWaits pairHasRoom numberFree sound shaped viewSound view behavioursOf code setOf has bitsOf standing runningSound rowSound receives fits runs runsLive runsOp arrives operand instruction operandInRange inRange hasClauses targetsFree wellPlaced codeSound isNumber fitsInt messages joined without signals oldest pushed popped register withRegister moved advanced linksTo kindsOf
+unfolding listingOf numberLine valueLine eachFrom members withCommas setLine registerLine messageLine standingLines standingText signalLine flightLine pairText rowsText listingText each valueText numberText intText digits digitsIn started sample opOf play played step rule ready commit incoming decide numbered ownerBorn signalWaits pairHasRoom numberFree sound shaped viewSound view behavioursOf code setOf has bitsOf standing runningSound rowSound receives fits runs runsLive runsOp arrives operand instruction operandInRange inRange hasClauses targetsFree wellPlaced codeSound isNumber fitsInt messages changed joined left popped signals oldest register withRegister moved advanced linksTo kindsOf
 sample-listing = refl
 
 -- closing, gone and live processes, a note, a link set with a comma, and signals of every kind
@@ -61,5 +62,5 @@ pub other-listing :
     ++ bytes "process=16\nstage=live\nbehaviour=8\nplace=32\nr0=i-2147483648\nr1=a255\nr2=p16\nr3=i0\ntrap=1\nlinks=7\nmail=2\nmessage=i5\nnote=p3,a9\n"
     ++ bytes "flight=1,2,4\nsignal=msg,i12\nsignal=exit,a0,1\nsignal=link\nsignal=unlink\n"
     ++ bytes "flight=2,1,1\nsignal=exit,p1,0\n"
-unfolding numberLine valueLine eachFrom members withCommas setLine registerLine messageLine mailText standingText signalLine flightLine pairText rowsText listingText each valueText numberText intText digits digitsIn
+unfolding numberLine valueLine eachFrom members withCommas setLine registerLine messageLine standingLines standingText signalLine flightLine pairText rowsText listingText each valueText numberText intText digits digitsIn
 other-listing = refl

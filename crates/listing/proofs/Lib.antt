@@ -1,4 +1,4 @@
+pub mod Loops
 pub mod Laws
-pub mod Pairs
 pub mod Listings
 pub mod Examples

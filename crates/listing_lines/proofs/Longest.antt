@@ -15,7 +15,6 @@ use borrow.Author.Tests.{leb-true, ltb-true}
 use lib.Dec.{leb, ltb}
 use lib.IntN.{pos, negsuc}
 use lib.ListN.{length, getD, length-append}
-use Rattle.node.specs.declared.Mailbox.{Mailbox}
 use Rattle.node.specs.declared.Message.the-variants.{Plain, Note}
 use Rattle.node.specs.declared.Message.{Message}
 use Rattle.node.specs.declared.Process.{Process}
@@ -27,7 +26,6 @@ use Rattle.node.specs.declared.Stage.{Stage}
 use Rattle.node.specs.declared.Value.the-variants.{Int, Atom, Pid}
 use Rattle.node.specs.declared.Value.{Value}
 use Rattle.node.specs.Lists.{rising, allOf}
-use Rattle.node.specs.Mailboxes.{messages}
 use Rattle.node.specs.Texts.{bytes}
 use Rattle.rules.proofs.All.{parts, allOf-at}
 use Rattle.rules.proofs.Living.{Placed, Alive, alive}
@@ -38,9 +36,11 @@ use Rattle.rules.specs.Nodes.{live, running, setOf, standing, standingIn, stand
 use Rattle.node.specs.Values.{numbers, isNumber, fitsInt, valueSound, messageSound}
 use Rattle.text.proofs.Digits.{digits-length}
 use Rattle.text.specs.Values.{valueText, numberText}
-use Rattle.text.specs.Writing.{digits, intText, each, lineEnd, numberLine}
-use Rattle.listing_lines.specs.Lines.{comma, valueLine, eachFrom, flag, joinsIf, members, withCommas, setLine, registerLine, messageLine, mailText, standingText, signalLine, flightLine, pairText}
-use Rattle.listing_lines.specs.Words.{processKey, liveLine, closingLine, goneLine, behaviourKey, placeKey, trapKey, linksKey, reasonKey, mailKey, messageKey, noteKey, flightKey, msgKey, exitKey, linkLine, unlinkLine}
+use Rattle.text.specs.Writing.{digits, intText, lineEnd, numberLine, each}
+use Rattle.listing_lines.specs.Lines.{comma, valueLine, eachFrom, flag, joinsIf, members, withCommas, setLine, registerLine, messageLine, mailOf, standingLines, standingText}
+use Rattle.listing_lines.specs.Lines.{signalLine, flightLine, pairText}
+use Rattle.listing_lines.specs.Words.{processKey, liveLine, closingLine, goneLine, behaviourKey, placeKey, trapKey, linksKey, reasonKey, mailKey, messageKey, noteKey, flightKey}
+use Rattle.listing_lines.specs.Words.{msgKey, exitKey, linkLine, unlinkLine}
 
 pub record Within (s : List ℕ) (k : ℕ) : Type 0 where
   pub most : length s ≤ k
@@ -143,11 +143,8 @@ message-within (Note j v) h =
     let t = parts (isNumber (j .0)) (valueSound v) h in
     exactly noteKey ⊕ pid-within j (t .0) ⊕ exactly comma ⊕ value-within v (t .1) ⊕ exactly lineEnd
 
-mail-within : (ms : List Message) → length ms ≤ 16 → So (allOf messageSound ms) → Within (mailText ms) 360
-unfolding mailText
-mail-within ms few h =
-    numberLine-within mailKey (length ms) (two-digits (length ms) (omega arith))
-    ⊕ loosely 352 (omega arith) (each-within messageLine messageSound 22 message-within ms h)
+mail-within : (ms : List Message) → length ms ≤ 16 → So (allOf messageSound ms) → Within (each messageLine ms) 352
+mail-within ms few h = loosely 352 (omega arith) (each-within messageLine messageSound 22 message-within ms h)
 
 -- ---- processes
 -- a live process with 16 notes in its mailbox
@@ -170,13 +167,14 @@ module _ (codes : List (List Instruction)) (few : length codes ≤ 8) (checked :
       let short = code-short (length codes) (getD codes (b - 1) []) (allOf-at (codeSound (length codes)) [] codes checked (b - 1) (omega arith)) in
       omega arith
 
-  module _ (i : ℕ) (low : i < 100) (p : Process) (m : Mailbox) where
+  module _ (i : ℕ) (low : i < 100) (p : Process) (m : List Message) where
     live-within : Alive codes i p m → Within (standingText i (live (running p m))) longestProcess
-    unfolding standingText eachFrom
+    unfolding standingText standingLines eachFrom
     live-within a =
         let b = behaviour-low (p .behaviour .0) (a .placed .known) in
         let t = place-low (p .behaviour .0) (p .place) (a .placed) in
         let v = a .valued in
+        let room = leb-true (length m) 16 (a .mailed .few) in
         numberLine-within processKey i (two-digits i low) ⊕ exactly liveLine
         ⊕ numberLine-within behaviourKey (p .behaviour .0) (one-digit (p .behaviour .0) (omega arith))
         ⊕ numberLine-within placeKey (p .place) (two-digits (p .place) (omega arith))
@@ -185,19 +183,20 @@ module _ (codes : List (List Instruction)) (few : length codes ≤ 8) (checked :
         ⊕ (register-within 2 (omega arith) (p .r2) (v .v2)
         ⊕ (register-within 3 (omega arith) (p .r3) (v .v3) ⊕ exactly []))))
         ⊕ numberLine-within trapKey (flag (p .trap)) (flag-within (p .trap)) ⊕ set-within linksKey (setOf (p .links))
-        ⊕ mail-within (messages m) (leb-true (length (messages m)) 16 (a .mailed .few)) (a .mailed .sound)
+        ⊕ numberLine-within mailKey (length m) (two-digits (length m) (omega arith))
+        ⊕ mail-within m room (a .mailed .sound)
 
     module _ (h : So (standingSound codes i (standing p m))) where
       stage-within : (s : Stage) → p .stage ≡ s → Within (standingText i (standingIn s p m)) longestProcess
-      unfolding standingText standing
+      unfolding standingText standingLines standing each
       stage-within Unborn e = loosely longestProcess (omega arith) (exactly [])
       stage-within Live e = live-within (alive codes i p m e h)
       stage-within Closing e =
           let g : So (standingSound codes i (standingIn Closing p m)) = subst (λ (s : Stage). So (standingSound codes i (standingIn s p m))) e h in
           let t = parts (valueSound (p .reason)) (not (setOf (p .links) i)) g in
           loosely longestProcess (omega arith)
-          (numberLine-within processKey i (two-digits i low) ⊕ exactly closingLine ⊕ valueLine-within reasonKey (p .reason) (t .0) ⊕ set-within linksKey (setOf (p .links)))
-      stage-within Gone e = loosely longestProcess (omega arith) (numberLine-within processKey i (two-digits i low) ⊕ exactly goneLine)
+          (numberLine-within processKey i (two-digits i low) ⊕ exactly closingLine ⊕ valueLine-within reasonKey (p .reason) (t .0) ⊕ set-within linksKey (setOf (p .links)) ⊕ exactly [])
+      stage-within Gone e = loosely longestProcess (omega arith) (numberLine-within processKey i (two-digits i low) ⊕ exactly goneLine ⊕ exactly [])
 
       pub standing-within : Within (standingText i (standing p m)) longestProcess
       unfolding standing

@@ -7,8 +7,10 @@
 --   withCommas l          numbers with commas between them
 --   setLine key set       a key and a set of processes
 --   registerLine k v      register k
---   messageLine m         a message;  mailText ms  a mailbox
---   standingText i s      process i;  an unborn one has no text
+--   messageLine m         a message
+--   mailOf s              the messages of a process that are listed;  listed stage n  how many of n messages
+--   standingLines i s n   the lines of process i up to its messages, n of which wait
+--   standingText i s      process i; an unborn one has no text
 --   signalLine x          a signal
 --   flightLine j i n      that n signals are in flight from j to i
 --   pairText j i xs       the signals in flight from j to i; a pair with none has no text
@@ -20,14 +22,17 @@ use Rattle.node.specs.declared.Message.the-variants.{Plain, Note}
 use Rattle.node.specs.declared.Message.{Message}
 use Rattle.node.specs.declared.Signal.the-variants.{Msg, Exit, Link, Unlink}
 use Rattle.node.specs.declared.Signal.{Signal}
+use Rattle.node.specs.declared.Stage.the-variants.{Unborn, Live, Closing, Gone}
+use Rattle.node.specs.declared.Stage.{Stage}
 use Rattle.node.specs.declared.Value.the-variants.{Pid}
 use Rattle.node.specs.declared.Value.{Value}
 use Rattle.node.specs.Texts.{bytes}
 use Rattle.rules.specs.Nodes.{Standing, unborn, live, closing, gone}
 use Rattle.node.specs.Values.{numbers}
 use Rattle.text.specs.Values.{valueText}
-use Rattle.text.specs.Writing.{digits, each, lineEnd, numberLine}
-use Rattle.listing_lines.specs.Words.{processKey, liveLine, closingLine, goneLine, behaviourKey, placeKey, trapKey, linksKey, reasonKey, mailKey, messageKey, noteKey, flightKey, msgKey, exitKey, linkLine, unlinkLine}
+use Rattle.text.specs.Writing.{digits, lineEnd, numberLine, each}
+use Rattle.listing_lines.specs.Words.{processKey, liveLine, closingLine, goneLine, behaviourKey, placeKey, trapKey, linksKey, reasonKey, mailKey, messageKey, noteKey, flightKey}
+use Rattle.listing_lines.specs.Words.{msgKey, exitKey, linkLine, unlinkLine}
 
 abbrev pub comma : List ℕ
 comma = bytes ","
@@ -62,25 +67,38 @@ setLine key set = key ++ withCommas (members set numbers) ++ lineEnd
 unfoldable pub registerLine : ℕ → Value → List ℕ
 registerLine k v = valueLine (bytes "r" ++ digits k ++ bytes "=") v
 
--- "lines `message=V` or `note=p,V`", the sender with its letter
+-- the sender of a note with its letter
 unfoldable pub messageLine : Message → List ℕ
 messageLine (Plain v) = valueLine messageKey v
 messageLine (Note j v) = noteKey ++ valueText (Pid j) ++ comma ++ valueText v ++ lineEnd
 
--- "`mail=n` is followed by n lines"
-unfoldable pub mailText : List Message → List ℕ
-mailText ms = numberLine mailKey (length ms) ++ each messageLine ms
+-- only a live process holds messages
+abbrev pub mailOf : Standing → List Message
+mailOf unborn = []
+mailOf (live r) = r .mail
+mailOf (closing v links) = []
+mailOf gone = []
+
+abbrev pub listed : Stage → ℕ → ℕ
+listed Unborn n = 0
+listed Live n = n
+listed Closing n = 0
+listed Gone n = 0
 
 -- "Closing has stage, reason, links; gone only stage"
-unfoldable pub standingText : ℕ → Standing → List ℕ
-standingText i unborn = []
-standingText i (live r) =
+unfoldable pub standingLines : ℕ → Standing → ℕ → List ℕ
+standingLines i unborn n = []
+standingLines i (live r) n =
     numberLine processKey i ++ liveLine
     ++ numberLine behaviourKey (r .behaviour) ++ numberLine placeKey (r .place)
     ++ eachFrom registerLine 0 (r .registers)
-    ++ numberLine trapKey (flag (r .trap)) ++ setLine linksKey (r .links) ++ mailText (r .mail)
-standingText i (closing v links) = numberLine processKey i ++ closingLine ++ valueLine reasonKey v ++ setLine linksKey links
-standingText i gone = numberLine processKey i ++ goneLine
+    ++ numberLine trapKey (flag (r .trap)) ++ setLine linksKey (r .links) ++ numberLine mailKey n
+standingLines i (closing v links) n = numberLine processKey i ++ closingLine ++ valueLine reasonKey v ++ setLine linksKey links
+standingLines i gone n = numberLine processKey i ++ goneLine
+
+-- "`mail=n` is followed by n lines `message=V` or `note=p,V`"
+unfoldable pub standingText : ℕ → Standing → List ℕ
+standingText i s = standingLines i s (length (mailOf s)) ++ each messageLine (mailOf s)
 
 -- "`signal=msg,V`, `signal=exit,V,b`, `signal=link`, `signal=unlink`"
 unfoldable pub signalLine : Signal → List ℕ

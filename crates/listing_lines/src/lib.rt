@@ -1,11 +1,9 @@
 // The lines of the listing, written into a lent buffer: each writer below writes one piece of its grammar.
 // Run over an empty slice a writer counts.
-use node::Mailbox;
 use node::Message;
 use node::Peers;
 use node::Process;
 use node::ProcessNumber;
-use node::Row;
 use node::Signal;
 use node::Stage;
 use node::Value;
@@ -17,40 +15,72 @@ use text::put_value;
 ghost use mathlib.Core.Bool.{cond};
 ghost use mathlib.Core.List.{[], _∷_, _++_};
 ghost use mathlib.Core.Path.{_≡_};
-ghost use Rattle.node.specs.Mailboxes.{messages};
-ghost use Rattle.node.specs.Rows.{signals};
 ghost use Rattle.rules.specs.Nodes.{setOf, running, live, closing, gone, standing};
 ghost use Rattle.node.specs.Values.{numbers};
-ghost use Rattle.text.specs.Writing.{Wrote, digits, each};
-ghost use Rattle.listing_lines.specs.Lines.{comma, valueLine, eachFrom, flag, members, withCommas, setLine, registerLine, messageLine, mailText, standingText, signalLine, flightLine, pairText};
+ghost use Rattle.text.specs.Writing.{Wrote, digits};
+ghost use Rattle.listing_lines.specs.Lines.{comma, valueLine, eachFrom, flag, members, withCommas, setLine, registerLine, messageLine, listed, standingLines, signalLine, flightLine};
 
-// Process i with its mailbox; an unborn process has no text.
-pub fn put_process(out: &mut [u8], at: usize, i: ProcessNumber, p: Process, m: Mailbox) -> usize
-    ensures { λ e. ⌜ Wrote (now (out .entry)) at (standingText (i .0) (standing p m)) (now (out .exit)) e ⌝ }
+// The lines of process i, for which `waiting` messages wait, up to and without them; an unborn process has no text.
+pub fn put_process(out: &mut [u8], at: usize, i: ProcessNumber, p: Process, waiting: u8) -> usize
+    ensures { λ e. ⌜ Wrote (now (out .entry)) at (standingLines (i .0) (standing p []) waiting) (now (out .exit)) e ⌝ }
 {
     let stage = p.stage;
     match stage {
         Stage::Unborn => at,
-        Stage::Live => put_live(out, at, i, p, m),
+        Stage::Live => put_live(out, at, i, p, waiting),
         Stage::Closing => put_closing(out, at, i, p),
         Stage::Gone => put_gone(out, at, i),
     }
 }
 
-// The signals in flight from process j to process i; a pair with none has no text.
-pub fn put_pair(out: &mut [u8], at: usize, j: ProcessNumber, i: ProcessNumber, r: Row) -> usize
-    ensures { λ e. ⌜ Wrote (now (out .entry)) at (pairText (j .0) (i .0) (signals r)) (now (out .exit)) e ⌝ }
+// How many of the messages that wait for a process are listed: all of a live one.
+pub fn listed(p: Process, waiting: u8) -> u8
+    ensures { λ r. ⌜ r ≡ listed (p .stage) waiting ⌝ }
 {
-    let count = r.count;
-    if count == 0 {
-        return at;
+    let stage = p.stage;
+    match stage {
+        Stage::Unborn => 0,
+        Stage::Live => waiting,
+        Stage::Closing => 0,
+        Stage::Gone => 0,
     }
-    let e = put_flight_line(out, at, j, i, count as u64);
-    put_signals(out, e, r)
 }
 
-fn put_live(out: &mut [u8], at: usize, i: ProcessNumber, p: Process, m: Mailbox) -> usize
-    ensures { λ e. ⌜ Wrote (now (out .entry)) at (standingText (i .0) (live (running p m))) (now (out .exit)) e ⌝ }
+pub fn put_message(out: &mut [u8], at: usize, m: Message) -> usize
+    ensures { λ e. ⌜ Wrote (now (out .entry)) at (messageLine m) (now (out .exit)) e ⌝ }
+{
+    match m {
+        Message::Plain(v) => put_value_line(out, at, b"message=", v),
+        Message::Note(j, v) => put_note(out, at, j, v),
+    }
+}
+
+// That n signals are in flight from process j to process i.
+pub fn put_flight(out: &mut [u8], at: usize, j: ProcessNumber, i: ProcessNumber, n: u8) -> usize
+    ensures { λ e. ⌜ Wrote (now (out .entry)) at (flightLine (j .0) (i .0) n) (now (out .exit)) e ⌝ }
+{
+    let e = put_bytes(out, at, b"flight=");
+    let e = put_number(out, e, j.0 as u64);
+    let e = put_byte(out, e, b',');
+    let e = put_number(out, e, i.0 as u64);
+    let e = put_byte(out, e, b',');
+    let e = put_number(out, e, n as u64);
+    put_byte(out, e, b'\n')
+}
+
+pub fn put_signal(out: &mut [u8], at: usize, x: Signal) -> usize
+    ensures { λ e. ⌜ Wrote (now (out .entry)) at (signalLine x) (now (out .exit)) e ⌝ }
+{
+    match x {
+        Signal::Msg(v) => put_value_line(out, at, b"signal=msg,", v),
+        Signal::Exit(v, b) => put_exit(out, at, v, b),
+        Signal::Link => put_bytes(out, at, b"signal=link\n"),
+        Signal::Unlink => put_bytes(out, at, b"signal=unlink\n"),
+    }
+}
+
+fn put_live(out: &mut [u8], at: usize, i: ProcessNumber, p: Process, waiting: u8) -> usize
+    ensures { λ e. ⌜ Wrote (now (out .entry)) at (standingLines (i .0) (live (running p [])) waiting) (now (out .exit)) e ⌝ }
 {
     let e = put_number_line(out, at, b"process=", i.0 as u64);
     let e = put_bytes(out, e, b"stage=live\n");
@@ -60,11 +90,11 @@ fn put_live(out: &mut [u8], at: usize, i: ProcessNumber, p: Process, m: Mailbox)
     let e = put_number_line(out, e, b"trap=", flag(p.trap));
     let links = p.links;
     let e = put_set(out, e, b"links=", links);
-    put_mail(out, e, m)
+    put_number_line(out, e, b"mail=", waiting as u64)
 }
 
 fn put_closing(out: &mut [u8], at: usize, i: ProcessNumber, p: Process) -> usize
-    ensures { λ e. ⌜ Wrote (now (out .entry)) at (standingText (i .0) (closing (p .reason) (setOf (p .links)))) (now (out .exit)) e ⌝ }
+    ensures { λ e. ⌜ Wrote (now (out .entry)) at (standingLines (i .0) (closing (p .reason) (setOf (p .links))) 0) (now (out .exit)) e ⌝ }
 {
     let reason = p.reason;
     let links = p.links;
@@ -75,7 +105,7 @@ fn put_closing(out: &mut [u8], at: usize, i: ProcessNumber, p: Process) -> usize
 }
 
 fn put_gone(out: &mut [u8], at: usize, i: ProcessNumber) -> usize
-    ensures { λ e. ⌜ Wrote (now (out .entry)) at (standingText (i .0) gone) (now (out .exit)) e ⌝ }
+    ensures { λ e. ⌜ Wrote (now (out .entry)) at (standingLines (i .0) gone 0) (now (out .exit)) e ⌝ }
 {
     let e = put_number_line(out, at, b"process=", i.0 as u64);
     put_bytes(out, e, b"stage=gone\n")
@@ -133,35 +163,6 @@ fn put_member(out: &mut [u8], at: usize, there: bool, later: bool, j: ProcessNum
     at
 }
 
-fn put_mail(out: &mut [u8], at: usize, m: Mailbox) -> usize
-    ensures { λ e. ⌜ Wrote (now (out .entry)) at (mailText (messages m)) (now (out .exit)) e ⌝ }
-{
-    let e = put_number_line(out, at, b"mail=", m.count as u64);
-    put_messages(out, e, m)
-}
-
-fn put_messages(out: &mut [u8], at: usize, m: Mailbox) -> usize
-    ensures { λ e. ⌜ Wrote (now (out .entry)) at (each messageLine (messages m)) (now (out .exit)) e ⌝ }
-{
-    let n = m.count;
-    let mut e = at;
-    let mut k = 0;
-    while k < n {
-        e = put_message(out, e, m.message_at(k));
-        k += 1;
-    }
-    e
-}
-
-fn put_message(out: &mut [u8], at: usize, m: Message) -> usize
-    ensures { λ e. ⌜ Wrote (now (out .entry)) at (messageLine m) (now (out .exit)) e ⌝ }
-{
-    match m {
-        Message::Plain(v) => put_value_line(out, at, b"message=", v),
-        Message::Note(j, v) => put_note(out, at, j, v),
-    }
-}
-
 fn put_note(out: &mut [u8], at: usize, j: ProcessNumber, v: Value) -> usize
     ensures { λ e. ⌜ Wrote (now (out .entry)) at (messageLine (Message.Note j v)) (now (out .exit)) e ⌝ }
 {
@@ -170,42 +171,6 @@ fn put_note(out: &mut [u8], at: usize, j: ProcessNumber, v: Value) -> usize
     let e = put_byte(out, e, b',');
     let e = put_value(out, e, v);
     put_byte(out, e, b'\n')
-}
-
-fn put_flight_line(out: &mut [u8], at: usize, j: ProcessNumber, i: ProcessNumber, n: u64) -> usize
-    ensures { λ e. ⌜ Wrote (now (out .entry)) at (flightLine (j .0) (i .0) n) (now (out .exit)) e ⌝ }
-{
-    let e = put_bytes(out, at, b"flight=");
-    let e = put_number(out, e, j.0 as u64);
-    let e = put_byte(out, e, b',');
-    let e = put_number(out, e, i.0 as u64);
-    let e = put_byte(out, e, b',');
-    let e = put_number(out, e, n);
-    put_byte(out, e, b'\n')
-}
-
-fn put_signals(out: &mut [u8], at: usize, r: Row) -> usize
-    ensures { λ e. ⌜ Wrote (now (out .entry)) at (each signalLine (signals r)) (now (out .exit)) e ⌝ }
-{
-    let n = r.count;
-    let mut e = at;
-    let mut k = 0;
-    while k < n {
-        e = put_signal(out, e, r.signal_at(k));
-        k += 1;
-    }
-    e
-}
-
-fn put_signal(out: &mut [u8], at: usize, x: Signal) -> usize
-    ensures { λ e. ⌜ Wrote (now (out .entry)) at (signalLine x) (now (out .exit)) e ⌝ }
-{
-    match x {
-        Signal::Msg(v) => put_value_line(out, at, b"signal=msg,", v),
-        Signal::Exit(v, b) => put_exit(out, at, v, b),
-        Signal::Link => put_bytes(out, at, b"signal=link\n"),
-        Signal::Unlink => put_bytes(out, at, b"signal=unlink\n"),
-    }
 }
 
 fn put_exit(out: &mut [u8], at: usize, v: Value, b: bool) -> usize

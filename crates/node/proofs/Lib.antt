@@ -2,6 +2,7 @@ pub mod Tests
 pub mod Values
 pub mod Signed
 pub mod Lists
+pub mod Blocks
 pub mod Ops
 pub mod Sets
 pub mod Good

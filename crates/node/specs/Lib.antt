@@ -1,4 +1,5 @@
 pub mod Lists
+pub mod Blocks
 pub mod Texts
 pub mod Values
 pub mod Ops

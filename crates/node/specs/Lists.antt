@@ -1,6 +1,7 @@
 -- Arrays and lists, for elements of any type.
 --   firsts d n l    the first n elements of l, d standing for those that l does not have: what an array and its count hold
 --   leave d k l     l without its element k, the rest in their order and d behind; l itself where it has no element k
+--   without k l     l without its element k, the rest in their order
 --   rising i n      the n numbers i, i + 1, ..
 --   allFrom f i l   f holds of each element of l with its number, the first having number i
 --   allOf f l       f holds of each element of l
@@ -19,6 +20,11 @@ module _ {A : Type 0} where
   leave d k [] = []
   leave d zero (x ∷ l) = l ++ (d ∷ [])
   leave d (suc k) (x ∷ l) = x ∷ leave d k l
+
+  abbrev pub without : ℕ → List A → List A
+  without k [] = []
+  without zero (x ∷ l) = l
+  without (suc k) (x ∷ l) = x ∷ without k l
 
   abbrev pub allFrom : (ℕ → A → Bool) → ℕ → List A → Bool
   allFrom f i [] = true

@@ -10,8 +10,8 @@ ghost use Rattle.node.specs.Ops.{kindsIn, kindsOf, operandCounts, operan
 ghost use Rattle.node.specs.Processes.{unborn, fresh, register, withRegister, moved, advanced, trapped, linksTo, linked, unlinked, ended, gone, withRegisters, withLinks, withStage};
 ghost use Rattle.node.specs.Values.{isNumber, valueSound, kindOf, messageKind, numberIn, sameValue};
 ghost use Rattle.node.specs.Sets.{noPeers, has, withPeer, withoutPeer, lowestPeer};
-ghost use Rattle.node.specs.Mailboxes.{noMessage, emptyMailbox, joined, without, emptied};
-ghost use Rattle.node.specs.Rows.{noSignal, emptyRow, oldest, pushed, popped};
+ghost use Rattle.node.specs.Mailboxes.{noMessage};
+ghost use Rattle.node.specs.Rows.{noSignal};
 ghost use Rattle.node.specs.Nodes.{blankNode, noOp};
 
 // A process number (process identifier), 1 to 16.
@@ -162,31 +162,23 @@ pub struct Slot {
     pub message: Message,
 }
 
-// The first `count` slots hold the messages, in order of arrival.
-pub struct Mailbox {
-    pub slots: [Slot; 16],
-    pub count: u8,
-}
-
 pub struct Cell {
     pub signal: Signal,
 }
 
-// The first `count` cells hold the signals of one ordered pair, the oldest first.
-pub struct Row {
-    pub cells: [Cell; 4],
-    pub count: u8,
-}
-
-// Behaviour b (of `count`) has `lens[b - 1]` ops, from `ops[32 * (b - 1)]` on; process i stands at `processes[i - 1]`, its mailbox at
-// `mail[i - 1]`; the signals from j to i stand at `flight[16 * (j - 1) + (i - 1)]`.
+// Behaviour b (of `count`) has `lens[b - 1]` ops, from `ops[32 * (b - 1)]` on, and process i stands at `processes[i - 1]`. Mailboxes and
+// rows are flat, so that a step stores single elements: of process i the first `waiting[i - 1]` slots from `slots[16 * (i - 1)]` on hold
+// the messages, in order of arrival; of the pair from j to i, k being 16 * (j - 1) + (i - 1), the first `counts[k]` cells from
+// `cells[4 * k]` on hold the signals, the oldest first.
 pub struct Node {
     pub count: u8,
     pub lens: [u8; 8],
     pub ops: [Op; 256],
     pub processes: [Process; 16],
-    pub mail: [Mailbox; 16],
-    pub flight: [Row; 256],
+    pub waiting: [u8; 16],
+    pub slots: [Slot; 256],
+    pub counts: [u8; 256],
+    pub cells: [Cell; 1024],
 }
 
 // A step by its kind: 0 is `run owner`, 1 is `arrive owner from from`.
@@ -366,7 +358,7 @@ pub fn same_value(a: Value, b: Value) -> bool
 }
 
 // One more, held at the top of a byte, so that no count or place wraps.
-fn risen(n: u8) -> u8
+pub fn risen(n: u8) -> u8
     ensures { λ r. ⌜ r ≡ min (n + 1) 255 ⌝ }
 {
     if n < 255 {
@@ -376,7 +368,7 @@ fn risen(n: u8) -> u8
 }
 
 // One less, held at 0.
-fn fallen(n: u8) -> u8
+pub fn fallen(n: u8) -> u8
     ensures { λ r. ⌜ r ≡ n - 1 ⌝ }
 {
     if 0 < n {
@@ -674,136 +666,24 @@ impl Process {
     }
 }
 
-impl Mailbox {
-    // Message k; what is past the slots is blank.
-    pub fn message_at(self, k: u8) -> Message
-        ensures { λ r. ⌜ r ≡ getD (self .slots) k noMessage .message ⌝ }
+impl Slot {
+    // What a slot holds in a fresh node.
+    pub fn blank() -> Slot
+        ensures { λ r. ⌜ r ≡ noMessage ⌝ }
     {
-        if k < 16 {
-            let at = k as usize;
-            let slot = self.slots[at];
-            return slot.message;
-        }
-        Message::Plain(Value::ZERO)
-    }
-
-    // A message joins, behind the others.
-    pub fn joined(mut self, m: Message) -> Mailbox
-        ensures { λ r. ⌜ r ≡ joined self m ⌝ }
-    {
-        let n = self.count;
-        self.count = risen(n);
-        if n < 16 {
-            let k = n as usize;
-            self.slots[k] = Slot { message: m };
-            return self;
-        }
-        self
-    }
-
-    // Message k leaves: those behind it move up by one.
-    pub fn without(mut self, k: u8) -> Mailbox
-        ensures { λ r. ⌜ r ≡ without self k ⌝ }
-    {
-        let n = self.count;
-        self.count = fallen(n);
-        if 16 <= k {
-            return self;
-        }
-        let mut slots = self.slots;
-        let mut i = k as usize;
-        while i < 15 {
-            slots[i] = slots[i + 1];
-            i += 1;
-        }
-        slots[15] = Slot {
+        Slot {
             message: Message::Plain(Value::ZERO),
-        };
-        self.slots = slots;
-        self
-    }
-
-    pub fn emptied(mut self) -> Mailbox
-        ensures { λ r. ⌜ r ≡ emptied self ⌝ }
-    {
-        self.count = 0;
-        self
-    }
-
-    pub fn empty() -> Mailbox
-        ensures { λ r. ⌜ r ≡ emptyMailbox ⌝ }
-    {
-        let blank = Slot {
-            message: Message::Plain(Value::ZERO),
-        };
-        Mailbox {
-            slots: [blank; 16],
-            count: 0,
         }
     }
 }
 
-impl Row {
-    pub fn empty() -> Row
-        ensures { λ r. ⌜ r ≡ emptyRow ⌝ }
+impl Cell {
+    // What a cell holds in a fresh node.
+    pub fn blank() -> Cell
+        ensures { λ r. ⌜ r ≡ noSignal ⌝ }
     {
-        let blank = Cell {
+        Cell {
             signal: Signal::Msg(Value::ZERO),
-        };
-        Row {
-            cells: [blank; 4],
-            count: 0,
-        }
-    }
-
-    // The signal that was sent first.
-    pub fn oldest(self) -> Signal
-        ensures { λ r. ⌜ r ≡ oldest self ⌝ }
-    {
-        let first = self.cells[0];
-        first.signal
-    }
-
-    // Signal k; what is past the cells is blank.
-    pub fn signal_at(self, k: u8) -> Signal
-        ensures { λ r. ⌜ r ≡ getD (self .cells) k noSignal .signal ⌝ }
-    {
-        if k < 4 {
-            let at = k as usize;
-            let cell = self.cells[at];
-            return cell.signal;
-        }
-        Signal::Msg(Value::ZERO)
-    }
-
-    // A signal is put in flight, behind the others.
-    pub fn pushed(mut self, x: Signal) -> Row
-        ensures { λ r. ⌜ r ≡ pushed self x ⌝ }
-    {
-        let n = self.count;
-        self.count = risen(n);
-        if n < 4 {
-            let k = n as usize;
-            self.cells[k] = Cell { signal: x };
-            return self;
-        }
-        self
-    }
-
-    // The oldest signal leaves: those behind it move up by one.
-    pub fn popped(self) -> Row
-        ensures { λ r. ⌜ r ≡ popped self ⌝ }
-    {
-        let n = self.count;
-        let a = self.cells[1];
-        let b = self.cells[2];
-        let c = self.cells[3];
-        let blank = Cell {
-            signal: Signal::Msg(Value::ZERO),
-        };
-        Row {
-            cells: [a, b, c, blank],
-            count: fallen(n),
         }
     }
 }
@@ -815,15 +695,17 @@ impl Node {
     {
         let stop = Op::stop();
         let process = Process::unborn();
-        let mailbox = Mailbox::empty();
-        let row = Row::empty();
+        let slot = Slot::blank();
+        let cell = Cell::blank();
         Node {
             count: 1,
             lens: [1, 0, 0, 0, 0, 0, 0, 0],
             ops: [stop; 256],
             processes: [process; 16],
-            mail: [mailbox; 16],
-            flight: [row; 256],
+            waiting: [0; 16],
+            slots: [slot; 256],
+            counts: [0; 256],
+            cells: [cell; 1024],
         }
     }
 }

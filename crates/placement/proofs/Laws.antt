@@ -44,11 +44,13 @@ module _ (n : ℕ) (ops : List Op) (k t : ℕ) (h : t < n) {o : Op} (at : o ≡ 
     unfolding wellPlaced instruction
     placed-stray e d p = rw op-is (rw (eq-eqb (o .number) clauseOp e, ap (λ (j : ℕ). eqb j recvOp) e, d) p)
 
-    pub placed-due : o .number ≡ clauseOp → (due 0 (take t (codeIn n ops k)) ≡ 0 → ⊥) → r ≡ targetsFree (codeIn n ops k) (instruction o) → r ≡ wellPlaced (codeIn n ops k) t (getD (codeIn n ops k) t (instruction noOp))
+    pub placed-due : o .number ≡ clauseOp → (due 0 (take t (codeIn n ops k)) ≡ 0 → ⊥) → r ≡ targetsFree (codeIn n ops k) (instruction o) → r ≡ wellPlaced (codeIn n ops k) t
+        (getD (codeIn n ops k) t (instruction noOp))
     unfolding wellPlaced instruction
     placed-due e d p = rw op-is (rw (eq-eqb (o .number) clauseOp e, ap (λ (j : ℕ). eqb j recvOp) e, lt-ltb 0 (due 0 (take t (codeIn n ops k))) (omega arith)) p)
 
-    pub placed-other : (o .number ≡ recvOp → ⊥) → (o .number ≡ clauseOp → ⊥) → r ≡ targetsFree (codeIn n ops k) (instruction o) → r ≡ wellPlaced (codeIn n ops k) t (getD (codeIn n ops k) t (instruction noOp))
+    pub placed-other : (o .number ≡ recvOp → ⊥) → (o .number ≡ clauseOp → ⊥) → r ≡ targetsFree (codeIn n ops k) (instruction o) → r ≡ wellPlaced (codeIn n ops k) t
+        (getD (codeIn n ops k) t (instruction noOp))
     unfolding wellPlaced instruction
     placed-other e d p = rw op-is (rw (ne-eqb (o .number) recvOp e, ne-eqb (o .number) clauseOp d) p)
 

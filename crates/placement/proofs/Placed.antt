@@ -19,7 +19,8 @@ unfolding misplacedIn
 in-none code t n [] l h = refl
 in-none code t n (x ∷ xs) l h = go (wellPlaced code t x) refl h (in-none code (t + 1) (n + 1) xs (omega arith))
   where
-    go : (b : Bool) → wellPlaced code t x ≡ b → cond b (misplacedIn code (t + 1) (n + 1) xs) n ≡ 0 → (misplacedIn code (t + 1) (n + 1) xs ≡ 0 → So (allFrom (wellPlaced code) (t + 1) xs)) → So (allFrom (wellPlaced code) t (x ∷ xs))
+    go : (b : Bool) → wellPlaced code t x ≡ b → cond b (misplacedIn code (t + 1) (n + 1) xs) n ≡ 0 → (misplacedIn code (t + 1) (n + 1) xs ≡ 0 → So (allFrom (wellPlaced code) (t + 1) xs))
+        → So (allFrom (wellPlaced code) t (x ∷ xs))
     go true e h next = both e (next h)
     go false e h next = absurd (omega (arith, h, l))
 

@@ -71,7 +71,8 @@ lens-behind : (n : Node) (codes : List (List Op)) (k : ℕ) → k < n .count →
 lens-behind n [] k h = refl
 lens-behind n (c ∷ codes) k h = lens-behind (withCode n c) codes k (omega arith) ∙ getD-set-other (n .lens) (n .count) k (length c) 0 (λ e. omega (arith, e))
 
-lens-there : (n : Node) (codes : List (List Op)) (j : ℕ) → j < length codes → n .count + length codes ≤ length (n .lens) → getD (withEach withCode n codes .lens) (n .count + j) 0 ≡ length (getD codes j [])
+lens-there : (n : Node) (codes : List (List Op)) (j : ℕ) → j < length codes → n .count + length codes ≤ length (n .lens) → getD (withEach withCode n codes .lens) (n .count + j) 0
+    ≡ length (getD codes j [])
 lens-there n [] j h s = absurd (omega arith)
 lens-there n (c ∷ codes) zero h s =
     let e : n .count + 0 ≡ n .count = omega arith in

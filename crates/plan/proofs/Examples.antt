@@ -71,6 +71,7 @@ refusals : map tells (
     ∷ bytes "plan=1\nbehaviours=1\ncode=3\nop=recv,1\nop=clause,note,0,1,1\nop=clause,any,0,0,0\nstarts=1\nstart=1,1\n"  -- a target on a clause, and a stray clause on a later line
     ∷ bytes "plan=1\nbehaviours=1\ncode=2\nop=clause,any,0,0,0\nop=stop,4\nstarts=1\nstart=1,1\n"  -- a stray clause, and a later line with 12
     ∷ [])
-    ≡ (11 ∷ 1 ∷ []) ∷ (11 ∷ 1 ∷ []) ∷ (11 ∷ 2 ∷ []) ∷ (11 ∷ 12 ∷ []) ∷ (11 ∷ 13 ∷ []) ∷ (12 ∷ 2 ∷ []) ∷ (11 ∷ 4 ∷ []) ∷ (12 ∷ 4 ∷ []) ∷ (11 ∷ 4 ∷ []) ∷ (12 ∷ 4 ∷ []) ∷ (0 ∷ 0 ∷ []) ∷ (13 ∷ 7 ∷ []) ∷ (12 ∷ 7 ∷ []) ∷ (14 ∷ 5 ∷ []) ∷ (14 ∷ 5 ∷ []) ∷ (14 ∷ 5 ∷ []) ∷ (12 ∷ 5 ∷ []) ∷ []
+    ≡ (11 ∷ 1 ∷ []) ∷ (11 ∷ 1 ∷ []) ∷ (11 ∷ 2 ∷ []) ∷ (11 ∷ 12 ∷ []) ∷ (11 ∷ 13 ∷ []) ∷ (12 ∷ 2 ∷ []) ∷ (11 ∷ 4 ∷ []) ∷ (12 ∷ 4 ∷ []) ∷ (11 ∷ 4 ∷ []) ∷ (12 ∷ 4 ∷ []) ∷ (0 ∷ 0 ∷ []) ∷ (13 ∷ 7 ∷ []) ∷
+    (12 ∷ 7 ∷ []) ∷ (14 ∷ 5 ∷ []) ∷ (14 ∷ 5 ∷ []) ∷ (14 ∷ 5 ∷ []) ∷ (12 ∷ 5 ∷ []) ∷ []
 unfolding tells loadOf refusedLoad checked planLines codeLines startLines headerTold headerLine countTold countLine opTold opLine startTold startLine risen startOf behavioursOf code nodeOf misplaced misplacedFrom misplacedIn onLine times endOf worse codedOf opOf operandsOf withOperand operandOf clauseKind instruction operand wellPlaced hasClauses targetsFree kindsOf indexOf linesOf lastApart lineThen split inFront fieldsOf equal startsWith numberOf numberForm unsignedForm unsigned negative isDigit numberValue decimal rangedOf valueOf byLetter intOf plusOf minusOf
 refusals = refl

@@ -67,7 +67,8 @@ module _ {A : Type 0} where
 
   -- as many as their count, each of which keeps what f keeps
   module _ (q : A → Bool) (f : List A → Left → Read A) (kept : (ys : List A) (l : Left) (x : A) (k : Left) → f ys l ≡ good x k → So (q x)) where
-    times-kept : (n : ℕ) (xs : List A) (l : Left) {zs : List A} {k : Left} → times n (λ (ys : List A). more (f ys) ys) xs l ≡ good zs k → So (allOf q xs) → (length zs ≡ length xs + n) × So (allOf q zs)
+    times-kept : (n : ℕ) (xs : List A) (l : Left) {zs : List A} {k : Left} → times n (λ (ys : List A). more (f ys) ys) xs l ≡ good zs k → So (allOf q xs) → (length zs ≡ length xs + n)
+        × So (allOf q zs)
     unfolding times
     times-kept zero xs l {zs} e h = let same : xs ≡ zs = cc in (omega (arith, ap length same), subst (λ (ys : List A). So (allOf q ys)) same h)
     times-kept (suc n) xs l {zs} {k} e h =
@@ -117,7 +118,8 @@ code-read c l {code} e =
     let size = count-read codeKey 1 32 l (w .2) in
     let t = times-kept (λ (o : Op). inRange c n (instruction o)) (λ (ys : List Op). onLine (opLine c n)) (λ ys r x k. op-read c n r) n [] (w .1) (w .3) refl in
     let is : length code ≡ n = omega (arith, t .0) in
-    both (both (le-leb 1 (length code) (omega (arith, size .0))) (le-leb (length code) 32 (omega (arith, size .1)))) (subst (λ (m : ℕ). So (allOf (λ (o : Op). inRange c m (instruction o)) code)) (sym is) (t .1))
+    both (both (le-leb 1 (length code) (omega (arith, size .0))) (le-leb (length code) 32 (omega (arith, size .1)))) (subst (λ (m : ℕ). So (allOf (λ (o : Op). inRange c m (instruction o)) code))
+    (sym is) (t .1))
 
 starts-read : (c : ℕ) (l : Left) {starts : List Start} {k : Left} → startLines c l ≡ good starts k → So (allOf (startKept c) starts)
 unfolding startLines

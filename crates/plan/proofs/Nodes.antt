@@ -15,7 +15,7 @@ use Rattle.plan_line.specs.declared.Start.{Start}
 use Rattle.plan.specs.declared.Mark.{Mark}
 use Rattle.plan.specs.Marks.{leftAt, mapped, Reached}
 use Rattle.plan_line.specs.Lines.{startLine}
-use Rattle.plan.specs.Plans.{beforeFirst, lastFrom, withOps, withCode, withStart, withEach}
+use Rattle.plan.specs.Plans.{beforeFirst, lastFrom, remade, withOps, withCode, withStart, withEach}
 use Rattle.plan.specs.Reading.{onLine}
 use Rattle.plan.proofs.Loops.{mapped-same}
 
@@ -27,14 +27,7 @@ sets-more {A} l i (y ∷ xs) x =
 
 -- node n with op x at place k of behaviour c + 1, which ends there
 abbrev withOp : ℕ → Node → ℕ → Op → Node
-withOp c n k x = record {
-  count = n .count;
-  lens = set (n .lens) c (k + 1);
-  ops = set (n .ops) (c * 32 + k) x;
-  processes = n .processes;
-  mail = n .mail;
-  flight = n .flight;
-}
+withOp c n k x = remade n (n .count) (set (n .lens) c (k + 1)) (set (n .ops) (c * 32 + k) x) (n .processes)
 
 ops-more : (n : Node) (xs : List Op) {i : ℕ} (x : Op) → length xs ≡ i → withOp (n .count) (withOps n xs) i x ≡ withOps n (xs ++ (x ∷ []))
 ops-more n xs {i} x e =
@@ -64,7 +57,7 @@ codes-small n codes e h = rw (e, codes-count n codes) h
 
 -- the count of a behaviour that is read
 pub counted-code : (n : Node) (ops : List Op) {b : Node} → b ≡ withOps n ops
-    → record { count = n .count + 1; lens = b .lens; ops = b .ops; processes = b .processes; mail = b .mail; flight = b .flight } ≡ withCode n ops
+    → remade b (n .count + 1) (b .lens) (b .ops) (b .processes) ≡ withCode n ops
 counted-code n ops e = rw e
 
 -- ---- starts
@@ -86,7 +79,7 @@ begun-more n starts {b} {b′} {i} {y} {s} p q e =
 
 -- a process stored where it stands
 pub started : (n : Node) (s : Start) {k : ℕ} {p : Process} → k ≡ s .process .0 - 1 → p ≡ fresh (s .behaviour) intZero
-    → record { count = n .count; lens = n .lens; ops = n .ops; processes = set (n .processes) k p; mail = n .mail; flight = n .flight } ≡ withStart n s
+    → remade n (n .count) (n .lens) (n .ops) (set (n .processes) k p) ≡ withStart n s
 started n s e f = rw (e, f)
 
 -- a start that was read behind the last one

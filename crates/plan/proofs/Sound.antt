@@ -6,30 +6,28 @@
 use mathlib.Core.Bool.{Bool, true, false, So, _&&_, cond}
 use mathlib.Core.List.{List, [], _∷_, map}
 use mathlib.Core.Path.{_≡_, refl, sym, ap, subst, _∙_}
-use Prim.Native.Nat.{ℕ, _-_, _*_}
+use Prim.Native.Nat.{ℕ, zero, suc, _-_, _*_, _<_}
 use native.Mathlib.Decide.{ℕ-discrete}
 use native.Mathlib.Omega.{arith}
 use borrow.Author.Tests.{le-leb, eqb-true}
 use lib.Dec.{eqb, leb, ltb}
 use lib.ListN.{length, getD, set, replicate, length-map, length-set, getD-replicate}
 use lib.Seq.{getD-set-other, length-sets}
-use Rattle.node.specs.declared.Mailbox.{Mailbox}
+use Rattle.node.specs.declared.Message.{Message}
 use Rattle.node.specs.declared.Node.{Node}
 use Rattle.node.specs.declared.Op.{Op}
 use Rattle.node.specs.declared.Process.{Process}
-use Rattle.node.specs.declared.Row.{Row}
+use Rattle.node.specs.declared.Signal.{Signal}
 use Rattle.node.specs.Lists.{allFrom, allOf}
-use Rattle.node.specs.Mailboxes.{emptied, emptyMailbox}
 use Rattle.node.specs.Ops.{kindsOf}
-use Rattle.node.specs.Nodes.{blankNode, noProcess, noMailbox, noRow, pair}
+use Rattle.node.specs.Nodes.{blankNode, noProcess, pair}
 use Rattle.node.specs.Processes.{fresh, unborn}
-use Rattle.node.specs.Rows.{emptyRow, signals}
 use Rattle.node.specs.Values.{intZero, fitsInt, isNumber}
+use Rattle.node.proofs.Contents.{messages-length, signals-length}
 use Rattle.node.proofs.Lists.{allFrom-both, allOf-from}
 use Rattle.rules.specs.Behaviours.{Instruction, codeSound, hasClauses, inRange, instruction, operand, operandInRange, targetsFree, wellPlaced}
-use Rattle.rules.specs.Nodes.{Sound, behavioursOf, code, mailbox, process, rowSound, standing, standingSound}
+use Rattle.rules.specs.Nodes.{Sound, behavioursOf, code, mailbox, process, row, rowSound, standing, standingSound}
 use Rattle.rules.proofs.All.{both, parts, allOf-map}
-use Rattle.rules.proofs.Firsts.{set-read}
 use Rattle.rules.proofs.Commits.{of-parts}
 use Rattle.rules.proofs.Places.{fresh-sound}
 use Rattle.rules.proofs.Records.{number-bounds}
@@ -44,18 +42,27 @@ use Rattle.plan.specs.Reading.{Left, Read, bad, good}
 use Rattle.plan.proofs.Behaviours.{behaviours-of}
 use Rattle.plan.proofs.Kept.{codeKept, startKept, PlanKept, plan-kept}
 
--- ---- nothing in flight, no mail
+-- ---- no mail, nothing in flight
 
-rows-empty : (j i : ℕ) → So (isNumber j) → So (isNumber i) → So (rowSound j i (signals (getD (replicate 256 emptyRow) (pair j i) noRow)))
-unfolding rowSound signals
-rows-empty j i h g =
-    let x = number-bounds j h in
-    let y = number-bounds i g in
-    rw (getD-replicate 256 (pair j i) emptyRow noRow (omega arith))
+module _ {A : Type 0} where
+  -- what holds of x and of the default holds of what is read where x is stored
+  set-read : (Q : A → Type 0) (d : A) (l : List A) (k : ℕ) (x : A) → Q d → Q x → Q (getD (set l k x) k d)
+  set-read Q d [] zero x h g = h
+  set-read Q d [] (suc k) x h g = h
+  set-read Q d (y ∷ l) zero x h g = g
+  set-read Q d (y ∷ l) (suc k) x h g = set-read Q d l k x h g
+
+  nothing-in : (l : List A) → length l ≡ 0 → l ≡ []
+  nothing-in [] e = refl
+  nothing-in (x ∷ l) e = absurd (omega arith)
+
+-- the count of block k, where all counts are 0
+none-at : (size k : ℕ) (counts : List ℕ) → counts ≡ replicate size 0 → k < size → getD counts k 0 ≡ 0
+none-at size k counts e h = ap (λ (l : List ℕ). getD l k 0) e ∙ getD-replicate size k 0 0 h
 
 module _ (codes : List (List Instruction)) where
   abbrev Stand : ℕ → Process → Type 0
-  Stand i p = So (standingSound codes i (standing p emptyMailbox))
+  Stand i p = So (standingSound codes i (standing p []))
 
   unborn-stands : (i : ℕ) → Stand i unborn
   unfolding standing
@@ -80,10 +87,11 @@ module _ (codes : List (List Instruction)) where
       go (no d) = rw (getD-set-other ps k (i - 1) p noProcess d) (all i n)
 
   started-stands : So (allOf (codeSound (length codes)) codes) → (s : Start) → So (startKept (length codes) s) → (i : ℕ) → Stand i (fresh (s .behaviour) intZero)
-  unfolding emptied fitsInt
-  started-stands sounds s h i = fresh-sound codes sounds i (s .behaviour) intZero emptyMailbox (parts (isNumber (s .process .0)) _ h .1) refl
+  unfolding fitsInt
+  started-stands sounds s h i = fresh-sound codes sounds i (s .behaviour) intZero (parts (isNumber (s .process .0)) _ h .1) refl
 
-  starts-stand : So (allOf (codeSound (length codes)) codes) → (n : Node) (starts : List Start) → So (allOf (startKept (length codes)) starts) → Stands (n .processes) → Stands (withEach withStart n starts .processes)
+  starts-stand : So (allOf (codeSound (length codes)) codes) → (n : Node) (starts : List Start) → So (allOf (startKept (length codes)) starts) → Stands (n .processes)
+      → Stands (withEach withStart n starts .processes)
   starts-stand sounds n [] h all = all
   starts-stand sounds n (s ∷ starts) h all =
       let w = parts (startKept (length codes) s) (allOf (startKept (length codes)) starts) h in
@@ -91,22 +99,30 @@ module _ (codes : List (List Instruction)) where
 
 -- ---- a node without mail and signals
 
-module _ (n : Node) (sized : Sized n) (mail : n .mail ≡ replicate 16 emptyMailbox) (flight : n .flight ≡ replicate 256 emptyRow) where
-  pub quiet-sound : So (leb 1 (length (behavioursOf n)) && leb (length (behavioursOf n)) 8) → So (allOf (codeSound (length (behavioursOf n))) (behavioursOf n)) → Stands (behavioursOf n) (n .processes) → Sound n
+module _ (n : Node) (sized : Sized n) (mail : n .waiting ≡ replicate 16 0) (flight : n .counts ≡ replicate 256 0) where
+  no-mail : (i : ℕ) → So (isNumber i) → mailbox n i ≡ []
+  no-mail i h = let x = number-bounds i h in nothing-in (mailbox n i) (messages-length _ ∙ none-at 16 (i - 1) (n .waiting) mail (omega arith))
+
+  no-signals : (j i : ℕ) → So (isNumber j) → So (isNumber i) → row n j i ≡ []
+  no-signals j i h g =
+      let x = number-bounds j h in
+      let y = number-bounds i g in
+      nothing-in (row n j i) (signals-length _ ∙ none-at 256 (pair j i) (n .counts) flight (omega arith))
+
+  pub quiet-sound : So (leb 1 (length (behavioursOf n)) && leb (length (behavioursOf n)) 8) → So (allOf (codeSound (length (behavioursOf n))) (behavioursOf n))
+      → Stands (behavioursOf n) (n .processes) → Sound n
+  unfolding rowSound
   quiet-sound few codes all = of-parts n (record {
     few = few;
     codes = codes;
-    processes = λ i h.
-        let x = number-bounds i h in
-        let box : mailbox n i ≡ emptyMailbox = ap (λ (ms : List Mailbox). getD ms (i - 1) noMailbox) mail ∙ getD-replicate 16 (i - 1) emptyMailbox noMailbox (omega arith) in
-        subst (λ (m : Mailbox). So (standingSound (behavioursOf n) i (standing (process n i) m))) (sym box) (all i h);
-    rows = λ j i h g. subst (λ (rs : List Row). So (rowSound j i (signals (getD rs (pair j i) noRow)))) (sym flight) (rows-empty j i h g);
+    processes = λ i h. subst (λ (m : List Message). So (standingSound (behavioursOf n) i (standing (process n i) m))) (sym (no-mail i h)) (all i h);
+    rows = λ j i h g. subst (λ (r : List Signal). So (rowSound j i r)) (sym (no-signals j i h g)) refl;
     sized = sized;
   })
 
 blank-sized : Sized blankNode
 unfolding blankNode
-blank-sized = record { lens = refl; ops = refl; processes = refl; mail = refl; slots = refl; flight = refl; cells = refl }
+blank-sized = record { lens = refl; ops = refl; processes = refl; mail = record { cells = refl; counts = refl }; flight = record { cells = refl; counts = refl } }
 
 pub blank-sound : Sound blankNode
 unfolding blankNode behavioursOf code instruction operand kindsOf codeSound inRange operandInRange wellPlaced hasClauses targetsFree
@@ -123,7 +139,8 @@ code-sound-of c code h g =
     let fit : So (allFrom (λ (t : ℕ) (x : Instruction). test x) 0 xs) = rw (← allOf-from test 0 xs, allOf-map test instruction code) (w .1) in
     rw (length-map code instruction, allFrom-both (λ (t : ℕ) (x : Instruction). test x) (wellPlaced xs) 0 xs) (both (w .0) (both fit g))
 
-codes-sound : (c : ℕ) (codes : List (List Op)) → So (allOf (codeKept c) codes) → So (allOf (λ (code : List Instruction). allFrom (wellPlaced code) 0 code) (map (map instruction) codes)) → So (allOf (codeSound c) (map (map instruction) codes))
+codes-sound : (c : ℕ) (codes : List (List Op)) → So (allOf (codeKept c) codes) → So (allOf (λ (code : List Instruction). allFrom (wellPlaced code) 0 code) (map (map instruction) codes))
+    → So (allOf (codeSound c) (map (map instruction) codes))
 codes-sound c [] h g = refl
 codes-sound c (code ∷ codes) h g =
     let a = parts (codeKept c code) (allOf (codeKept c) codes) h in
@@ -137,7 +154,8 @@ each-keeps : {A B : Type 0} (get : Node → B) (f : Node → A → Node) → ((n
 each-keeps get f h n [] = refl
 each-keeps get f h n (x ∷ xs) = each-keeps get f h (f n x) xs ∙ h n x
 
-plan-keeps : {B : Type 0} (get : Node → B) → ((n : Node) (s : Start) → get (withStart n s) ≡ get n) → ((n : Node) (code : List Op) → get (withCode n code) ≡ get n) → (p : Plan) → get (nodeOf p) ≡ get emptyNode
+plan-keeps : {B : Type 0} (get : Node → B) → ((n : Node) (s : Start) → get (withStart n s) ≡ get n) → ((n : Node) (code : List Op) → get (withCode n code) ≡ get n) → (p : Plan) → get (nodeOf p)
+    ≡ get emptyNode
 unfolding nodeOf
 plan-keeps get h g p = each-keeps get withStart h (withEach withCode emptyNode (p .codes)) (p .starts) ∙ each-keeps get withCode g emptyNode (p .codes)
 
@@ -148,9 +166,7 @@ code-sized n code z = record {
   ops = length-sets (n .ops) (n .count * 32) code ∙ z .ops;
   processes = z .processes;
   mail = z .mail;
-  slots = z .slots;
   flight = z .flight;
-  cells = z .cells;
 }
 
 start-sized : (n : Node) (s : Start) → Sized n → Sized (withStart n s)
@@ -159,9 +175,7 @@ start-sized n s z = record {
   ops = z .ops;
   processes = length-set (n .processes) (s .process .0 - 1) _ ∙ z .processes;
   mail = z .mail;
-  slots = z .slots;
   flight = z .flight;
-  cells = z .cells;
 }
 
 each-sized : {A : Type 0} (f : Node → A → Node) → ((n : Node) (x : A) → Sized n → Sized (f n x)) → (n : Node) (xs : List A) → Sized n → Sized (withEach f n xs)
@@ -169,7 +183,7 @@ each-sized f h n [] z = z
 each-sized f h n (x ∷ xs) z = each-sized f h (f n x) xs (h n x z)
 
 empty-sized : Sized emptyNode
-empty-sized = record { lens = refl; ops = refl; processes = refl; mail = refl; slots = refl; flight = refl; cells = refl }
+empty-sized = record { lens = refl; ops = refl; processes = refl; mail = record { cells = refl; counts = refl }; flight = record { cells = refl; counts = refl } }
 
 plan-sized : (p : Plan) → Sized (nodeOf p)
 unfolding nodeOf
@@ -189,8 +203,9 @@ plan-sound p k none =
     let size : length (behavioursOf n) ≡ length (p .codes) = ap length is ∙ length-map (p .codes) (map instruction) in
     let placed = subst (λ (bs : List (List Instruction)). So (allOf (λ (code : List Instruction). allFrom (wellPlaced code) 0 code) bs)) is (misplaced-none firstCode (behavioursOf n) none) in
     let sounds : So (allOf (codeSound (length (behavioursOf n))) (behavioursOf n)) =
-    subst (λ (bs : List (List Instruction)). So (allOf (codeSound (length (behavioursOf n))) bs)) (sym is) (subst (λ (c : ℕ). So (allOf (codeSound c) (map (map instruction) (p .codes)))) (sym size) (codes-sound (length (p .codes)) (p .codes) (k .codes) placed)) in
-    quiet-sound n (plan-sized p) (plan-keeps (λ (n : Node). n .mail) (λ n s. refl) (λ n code. refl) p) (plan-keeps (λ (n : Node). n .flight) (λ n s. refl) (λ n code. refl) p)
+    subst (λ (bs : List (List Instruction)). So (allOf (codeSound (length (behavioursOf n))) bs)) (sym is) (subst (λ (c : ℕ). So (allOf (codeSound c) (map (map instruction) (p .codes)))) (sym size)
+    (codes-sound (length (p .codes)) (p .codes) (k .codes) placed)) in
+    quiet-sound n (plan-sized p) (plan-keeps (λ (n : Node). n .waiting) (λ n s. refl) (λ n code. refl) p) (plan-keeps (λ (n : Node). n .counts) (λ n s. refl) (λ n code. refl) p)
     (both (le-leb 1 (length (behavioursOf n)) (omega (arith, size, k .least))) (le-leb (length (behavioursOf n)) 8 (omega (arith, size, k .most))))
     sounds
     (plan-stands p (behavioursOf n) sounds (subst (λ (c : ℕ). So (allOf (startKept c) (p .starts))) (sym size) (k .starts)))

@@ -20,7 +20,8 @@ use Rattle.plan_line.specs.Lines.{behavioursKey, countLine}
 use Rattle.plan.specs.declared.Loaded.{Loaded}
 use Rattle.plan.specs.declared.Mark.{Mark}
 use Rattle.plan.specs.Marks.{mapped, endMark, Reached}
-use Rattle.plan.specs.Plans.{Plan, textTooLong, illPlaced, more, codeLines, startLines, planLines, emptyNode, withCode, withStart, withEach, nodeOf, misplaced, refusedLoad, checked, loadedFrom, loadOf}
+use Rattle.plan.specs.Plans.{Plan, textTooLong, illPlaced, more, codeLines, startLines, planLines, emptyNode, withCode, withStart, withEach, nodeOf, misplaced, refusedLoad, checked}
+use Rattle.plan.specs.Plans.{loadedFrom, loadOf}
 use Rattle.plan.specs.Reading.{Left, Read, onLine, thenOn, times, endOf}
 use Rattle.plan.proofs.Loops.{markRead-good, markRead-bad, mapped-bad, mapped-good, made-stop, made-on}
 use Rattle.plan.proofs.Marks.{end-stopped, end-read}

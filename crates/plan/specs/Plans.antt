@@ -6,6 +6,8 @@
 --   beforeFirst lastFrom    a number below that of every process; the process of the last of some starts
 --   planLines               the lines of a plan
 --   misplaced node          14: the line of the first op that is not well placed; 0 where there is none
+--   remade n ..             n with behaviours and processes anew
+--   codedNode codes         the node with behaviours and without processes
 --   withCode withStart      a node with one more behaviour, and with one more process started
 --   nodeOf plan             the started node
 --   loadOf text             what a load tells
@@ -17,18 +19,20 @@ use lib.ListN.{length, set, replicate}
 use lib.Seq.{sets}
 use Rattle.node.specs.declared.Node.{Node}
 use Rattle.node.specs.declared.Op.{Op}
+use Rattle.node.specs.declared.Process.{Process}
 use Rattle.node.specs.declared.ProcessNumber.{ProcessNumber}
-use Rattle.node.specs.Mailboxes.{emptyMailbox}
+use Rattle.node.specs.Mailboxes.{noMessage}
 use Rattle.node.specs.Nodes.{blankNode}
 use Rattle.node.specs.Ops.{stopOp}
 use Rattle.node.specs.Processes.{unborn, fresh}
-use Rattle.node.specs.Rows.{emptyRow}
+use Rattle.node.specs.Rows.{noSignal}
 use Rattle.node.specs.Values.{intZero}
 use Rattle.rules.specs.Nodes.{behavioursOf}
 use Rattle.text.specs.Parts.{linesOf}
 use Rattle.placement.specs.Misplaced.{firstCode, misplacedFrom}
 use Rattle.plan_line.specs.declared.Start.{Start}
 use Rattle.plan_line.specs.Lines.{behavioursKey, codeKey, startsKey, headerLine, countLine, opLine, startLine}
+use Rattle.plan.specs.declared.Codes.{Codes}
 use Rattle.plan.specs.declared.Loaded.{Loaded}
 use Rattle.plan.specs.Reading.{Left, Read, bad, good, onLine, thenOn, times, endOf}
 
@@ -92,23 +96,34 @@ emptyNode = record {
   lens = replicate 8 0;
   ops = replicate 256 stopOp;
   processes = replicate 16 unborn;
-  mail = replicate 16 emptyMailbox;
-  flight = replicate 256 emptyRow;
+  waiting = replicate 16 0;
+  slots = replicate 256 noMessage;
+  counts = replicate 256 0;
+  cells = replicate 1024 noSignal;
 }
+
+-- behaviours and processes anew, mail and signals as they are
+abbrev pub remade : Node → ℕ → List ℕ → List Op → List Process → Node
+remade n count lens ops processes = record {
+  count = count;
+  lens = lens;
+  ops = ops;
+  processes = processes;
+  waiting = n .waiting;
+  slots = n .slots;
+  counts = n .counts;
+  cells = n .cells;
+}
+
+abbrev pub codedNode : Codes → Node
+codedNode c = remade emptyNode (c .count) (c .lens) (c .ops) (emptyNode .processes)
 
 -- the ops behind those of the other behaviours: their N, and the ops themselves on 32 places of their own
 abbrev pub withOps : Node → List Op → Node
-withOps n code = record {
-  count = n .count;
-  lens = set (n .lens) (n .count) (length code);
-  ops = sets (n .ops) (n .count * 32) code;
-  processes = n .processes;
-  mail = n .mail;
-  flight = n .flight;
-}
+withOps n code = remade n (n .count) (set (n .lens) (n .count) (length code)) (sets (n .ops) (n .count * 32) code) (n .processes)
 
 abbrev pub counted : Node → Node
-counted n = record { count = n .count + 1; lens = n .lens; ops = n .ops; processes = n .processes; mail = n .mail; flight = n .flight }
+counted n = remade n (n .count + 1) (n .lens) (n .ops) (n .processes)
 
 -- a behaviour behind the others
 abbrev pub withCode : Node → List Op → Node
@@ -116,14 +131,7 @@ withCode n code = counted (withOps n code)
 
 -- "started processes are as spawned, r0 being i0, all others unborn, nothing in flight"
 abbrev pub withStart : Node → Start → Node
-withStart n s = record {
-  count = n .count;
-  lens = n .lens;
-  ops = n .ops;
-  processes = set (n .processes) (s .process .0 - 1) (fresh (s .behaviour) intZero);
-  mail = n .mail;
-  flight = n .flight;
-}
+withStart n s = remade n (n .count) (n .lens) (n .ops) (set (n .processes) (s .process .0 - 1) (fresh (s .behaviour) intZero))
 
 -- f takes each of xs, in their order
 abbrev pub withEach : {A : Type 0} → (Node → A → Node) → Node → List A → Node

@@ -13,7 +13,8 @@ ghost use Prim.Native.Nat.{_≤_, _<_};
 ghost use lib.ListN.{length};
 ghost use Rattle.text.specs.Parts.{linesOf};
 ghost use Rattle.plan_line.specs.Lines.{headerLine, countLine, opLine, startLine};
-ghost use Rattle.plan.specs.Plans.{more, emptyNode, nodeOf, planLines, refusedLoad, loadOf, codeLines, startMore, startLines, withOps, withCode, withStart, withEach};
+ghost use Rattle.plan.specs.Plans.{more, nodeOf, planLines, refusedLoad, loadOf, codeLines, startMore, startLines};
+ghost use Rattle.plan.specs.Plans.{codedNode, emptyNode, withOps, withCode, withStart, withEach};
 ghost use Rattle.plan.specs.Marks.{leftAt, mapped, endMark, stopped, behind, Within, Reached};
 ghost use Rattle.plan.specs.Reading.{onLine, times};
 
@@ -51,6 +52,19 @@ struct OpAt {
 struct StartAt {
     mark: Mark,
     start: Start,
+}
+
+// The behaviours that are read: how many, the number of ops of each, and the ops, 32 places to a behaviour. They are handed on with each
+// behaviour, for which a node is too large.
+struct Codes {
+    count: u8,
+    lens: [u8; 8],
+    ops: [Op; 256],
+}
+
+struct CodesAt {
+    mark: Mark,
+    codes: Codes,
 }
 
 struct Placed {
@@ -100,7 +114,6 @@ fn read_plan(text: &[u8]) -> Placed
     requires { ⌜ length (now text) ≤ 16384 ⌝ }
     ensures { λ r. ⌜ Reached (now (text .entry)) (r .mark) (r .node) (mapped nodeOf (planLines (record { text = linesOf (now (text .entry)); first = 1 }))) ⌝ }
 {
-    let node = empty_node();
     let first = Mark {
         refusal: 0,
         line: 1,
@@ -108,20 +121,26 @@ fn read_plan(text: &[u8]) -> Placed
     };
     let header = header_at(text, first);
     if header.refusal != 0 {
-        return Placed { mark: header, node };
+        return Placed {
+            mark: header,
+            node: Node::blank(),
+        };
     }
     let x = count_at(text, header, b"behaviours=", 1, 8);
     let mark = x.mark;
     if mark.refusal != 0 {
-        return Placed { mark, node };
+        return Placed {
+            mark,
+            node: Node::blank(),
+        };
     }
-    let codes = read_codes(text, mark, node, x.number);
+    let codes = read_codes(text, mark, x.number);
     let behind = codes.mark;
+    let node = coded_node(codes.codes);
     if behind.refusal != 0 {
         return Placed { mark: behind, node };
     }
-    let coded = codes.node;
-    let starts = read_starts(text, behind, coded, x.number);
+    let starts = read_starts(text, behind, node, x.number);
     let started = starts.node;
     Placed {
         mark: read_end(text, starts.mark),
@@ -142,13 +161,27 @@ fn read_end(text: &[u8], m: Mark) -> Mark
     m
 }
 
-// A node without behaviours and processes.
-fn empty_node() -> Node
-    ensures { λ r. ⌜ r ≡ emptyNode ⌝ }
+fn no_codes() -> Codes
+    ensures { λ r. ⌜ codedNode r ≡ emptyNode ⌝ }
+{
+    let stop = Op::stop();
+    Codes {
+        count: 0,
+        lens: [0; 8],
+        ops: [stop; 256],
+    }
+}
+
+// The node with these behaviours and without processes.
+fn coded_node(c: Codes) -> Node
+    ensures { λ r. ⌜ r ≡ codedNode c ⌝ }
 {
     let mut n = Node::blank();
-    n.count = 0;
-    n.lens[0] = 0;
+    let lens = c.lens;
+    let ops = c.ops;
+    n.count = c.count;
+    n.lens = lens;
+    n.ops = ops;
     n
 }
 
@@ -158,7 +191,7 @@ fn header_at(text: &[u8], m: Mark) -> Mark
     ensures { λ r. ⌜ Reached (now (text .entry)) r 1 (onLine headerLine (leftAt (now (text .entry)) m)) ⌝ }
 {
     let at = m.at;
-    let e = text::find(text, at, b'\n');
+    let e = text::line_end(text, at);
     if text.len() <= e {
         return stopped_at(m, MALFORMED);
     }
@@ -168,10 +201,11 @@ fn header_at(text: &[u8], m: Mark) -> Mark
 // The line at m, with a key and a number from low to high.
 fn count_at(text: &[u8], m: Mark, key: &[u8], low: u8, high: u8) -> CountAt
     requires { ⌜ Within (now text) m ⌝ }
-    ensures { λ r. ⌜ (Reached (now (text .entry)) (r .mark) (r .number) (onLine (countLine (now (key .entry)) low high) (leftAt (now (text .entry)) m))) × (r .number ≤ high) ⌝ }
+    ensures { λ r. ⌜ (Reached (now (text .entry)) (r .mark) (r .number)
+        (onLine (countLine (now (key .entry)) low high) (leftAt (now (text .entry)) m))) × (r .number ≤ high) ⌝ }
 {
     let at = m.at;
-    let e = text::find(text, at, b'\n');
+    let e = text::line_end(text, at);
     if text.len() <= e {
         return CountAt {
             mark: stopped_at(m, MALFORMED),
@@ -191,7 +225,7 @@ fn op_at(text: &[u8], m: Mark, count: u8, len: u8) -> OpAt
     ensures { λ r. ⌜ Reached (now (text .entry)) (r .mark) (r .op) (onLine (opLine count len) (leftAt (now (text .entry)) m)) ⌝ }
 {
     let at = m.at;
-    let e = text::find(text, at, b'\n');
+    let e = text::line_end(text, at);
     if text.len() <= e {
         return OpAt {
             mark: stopped_at(m, MALFORMED),
@@ -209,10 +243,11 @@ fn op_at(text: &[u8], m: Mark, count: u8, len: u8) -> OpAt
 // The line at m, with a start behind a start of process `last`.
 fn start_at(text: &[u8], m: Mark, count: u8, last: ProcessNumber) -> StartAt
     requires { ⌜ Within (now text) m ⌝ }
-    ensures { λ r. ⌜ (Reached (now (text .entry)) (r .mark) (r .start) (onLine (startLine count last) (leftAt (now (text .entry)) m))) × (r .start .process .0 ≤ 16) ⌝ }
+    ensures { λ r. ⌜ (Reached (now (text .entry)) (r .mark) (r .start)
+        (onLine (startLine count last) (leftAt (now (text .entry)) m))) × (r .start .process .0 ≤ 16) ⌝ }
 {
     let at = m.at;
-    let e = text::find(text, at, b'\n');
+    let e = text::line_end(text, at);
     if text.len() <= e {
         return StartAt {
             mark: stopped_at(m, MALFORMED),
@@ -256,15 +291,15 @@ fn behind_line(m: Mark, e: usize, refusal: u8) -> Mark
     }
 }
 
-// The ops of a behaviour with `len` ops, behind the others. Each is stored where it stays: a node is too large to be handed on with
-// each op.
-fn read_ops(text: &[u8], m: Mark, node: Node, count: u8, len: u8) -> Placed
-    requires { ⌜ (Within (now text) m) × (m .refusal ≡ 0) × (node .count < 8) × (len ≤ 32) ⌝ }
-    ensures { λ r. ⌜ Reached (now (text .entry)) (r .mark) (r .node) (mapped (withOps node) (times len (more (onLine (opLine count len))) [] (leftAt (now (text .entry)) m))) ⌝ }
+// The ops of a behaviour with `len` ops, behind the others. Each is stored where it stays.
+fn read_ops(text: &[u8], m: Mark, codes: Codes, count: u8, len: u8) -> CodesAt
+    requires { ⌜ (Within (now text) m) × (m .refusal ≡ 0) × (codes .count < 8) × (len ≤ 32) ⌝ }
+    ensures { λ r. ⌜ Reached (now (text .entry)) (r .mark) (codedNode (r .codes))
+        (mapped (withOps (codedNode codes)) (times len (more (onLine (opLine count len))) [] (leftAt (now (text .entry)) m))) ⌝ }
 {
-    let b = node.count as usize;
+    let b = codes.count as usize;
     let mut mark = m;
-    let mut n = node;
+    let mut n = codes;
     n.lens[b] = 0;
     let mut i: u8 = 0;
     while i < len {
@@ -272,52 +307,57 @@ fn read_ops(text: &[u8], m: Mark, node: Node, count: u8, len: u8) -> Placed
         let op = x.op;
         mark = x.mark;
         if mark.refusal != 0 {
-            return Placed { mark, node };
+            return CodesAt { mark, codes };
         }
         let at = b * 32 + (i as usize);
         i += 1;
         n.lens[b] = i;
         n.ops[at] = op;
     }
-    Placed { mark, node: n }
+    CodesAt { mark, codes: n }
 }
 
 // A behaviour, behind the others.
-fn read_code(text: &[u8], m: Mark, node: Node, count: u8) -> Placed
-    requires { ⌜ (Within (now text) m) × (m .refusal ≡ 0) × (node .count < 8) ⌝ }
-    ensures { λ r. ⌜ Reached (now (text .entry)) (r .mark) (r .node) (mapped (withCode node) (codeLines count (leftAt (now (text .entry)) m))) ⌝ }
+fn read_code(text: &[u8], m: Mark, codes: Codes, count: u8) -> CodesAt
+    requires { ⌜ (Within (now text) m) × (m .refusal ≡ 0) × (codes .count < 8) ⌝ }
+    ensures { λ r. ⌜ Reached (now (text .entry)) (r .mark) (codedNode (r .codes))
+        (mapped (withCode (codedNode codes)) (codeLines count (leftAt (now (text .entry)) m))) ⌝ }
 {
     let x = count_at(text, m, b"code=", 1, 32);
     let mark = x.mark;
     if mark.refusal != 0 {
-        return Placed { mark, node };
+        return CodesAt { mark, codes };
     }
-    let b = node.count;
-    let y = read_ops(text, mark, node, count, x.number);
-    let mut n = y.node;
+    let b = codes.count;
+    let y = read_ops(text, mark, codes, count, x.number);
+    let mut n = y.codes;
     n.count = b + 1;
     let end = y.mark;
-    Placed { mark: end, node: n }
+    CodesAt {
+        mark: end,
+        codes: n,
+    }
 }
 
 // The behaviours of a plan.
-fn read_codes(text: &[u8], m: Mark, node: Node, count: u8) -> Placed
-    requires { ⌜ (Within (now text) m) × (m .refusal ≡ 0) × (node .count ≡ 0) × (count ≤ 8) ⌝ }
-    ensures { λ r. ⌜ Reached (now (text .entry)) (r .mark) (r .node) (mapped (withEach withCode node) (times count (more (codeLines count)) [] (leftAt (now (text .entry)) m))) ⌝ }
+fn read_codes(text: &[u8], m: Mark, count: u8) -> CodesAt
+    requires { ⌜ (Within (now text) m) × (m .refusal ≡ 0) × (count ≤ 8) ⌝ }
+    ensures { λ r. ⌜ Reached (now (text .entry)) (r .mark) (codedNode (r .codes))
+        (mapped (withEach withCode emptyNode) (times count (more (codeLines count)) [] (leftAt (now (text .entry)) m))) ⌝ }
 {
     let mut mark = m;
-    let mut n = node;
+    let mut n = no_codes();
     let mut i: u8 = 0;
     while i < count {
         let x = read_code(text, mark, n, count);
         mark = x.mark;
+        n = x.codes;
         if mark.refusal != 0 {
-            return Placed { mark, node };
+            return CodesAt { mark, codes: n };
         }
-        n = x.node;
         i += 1;
     }
-    Placed { mark, node: n }
+    CodesAt { mark, codes: n }
 }
 
 // The starts of a plan.
@@ -336,7 +376,8 @@ fn read_starts(text: &[u8], m: Mark, node: Node, count: u8) -> Placed
 // As many starts as `len` says.
 fn start_each(text: &[u8], m: Mark, node: Node, count: u8, len: u8) -> Placed
     requires { ⌜ (Within (now text) m) × (m .refusal ≡ 0) ⌝ }
-    ensures { λ r. ⌜ Reached (now (text .entry)) (r .mark) (r .node) (mapped (withEach withStart node) (times len (startMore count) [] (leftAt (now (text .entry)) m))) ⌝ }
+    ensures { λ r. ⌜ Reached (now (text .entry)) (r .mark) (r .node)
+        (mapped (withEach withStart node) (times len (startMore count) [] (leftAt (now (text .entry)) m))) ⌝ }
 {
     let mut mark = m;
     let mut n = node;

@@ -69,7 +69,8 @@ int-kept (done n) = go (n .minus)
     go true = minus-kept (n .value)
     go false = plus-kept (n .value)
 
-letter-by : (l : List ℕ) (a b c : Bool) → ValueKept (cond a (intOf (numberOf l)) (cond b (rangedValue Atom (rangedOf (numberOf l) 0 255)) (cond c (rangedValue pid (rangedOf (numberOf l) 1 16)) (noValue malformed))))
+letter-by : (l : List ℕ) (a b c : Bool)
+    → ValueKept (cond a (intOf (numberOf l)) (cond b (rangedValue Atom (rangedOf (numberOf l) 0 255)) (cond c (rangedValue pid (rangedOf (numberOf l) 1 16)) (noValue malformed))))
 unfolding isNumber
 letter-by l true b c = int-kept (numberOf l)
 letter-by l false true c = λ e. le-leb _ 255 (ranged-kept l 0 255 .most)
@@ -183,7 +184,8 @@ module _ (c n : ℕ) where
   abbrev fitting : Op → OperandKind → Bool
   fitting o k = operandInRange c n k (operand o k)
 
-  operands-kept : (o : Coded) (ks : List OperandKind) (ls : List (List ℕ)) → length ls ≡ length ks → So (distinct ks) → operandsOf c n o ks ls .refusal ≡ 0 → So (allOf (fitting (operandsOf c n o ks ls .op)) ks)
+  operands-kept : (o : Coded) (ks : List OperandKind) (ls : List (List ℕ)) → length ls ≡ length ks → So (distinct ks) → operandsOf c n o ks ls .refusal ≡ 0
+      → So (allOf (fitting (operandsOf c n o ks ls .op)) ks)
   unfolding operandsOf distinct
   operands-kept o [] ls e d h = refl
   operands-kept o (k ∷ ks) [] e d h = absurd (omega (arith, e))
@@ -215,7 +217,8 @@ module _ (c n : ℕ) where
           let kept = operands-kept (bare k) (kindsOf k) ls size (distinct-kinds k) e in
           (rw is h, subst (λ (j : ℕ). So (allOf (fitting (operandsOf c n (bare k) (kindsOf k) ls .op)) (kindsOf j))) (sym is) kept)
 
-  pub op-kept : (line : List ℕ) → opTold c n line .refusal ≡ 0 → (opTold c n line .op .number < opCount) × So (allOf (λ (k : OperandKind). operandInRange c n k (operand (opTold c n line .op) k)) (kindsOf (opTold c n line .op .number)))
+  pub op-kept : (line : List ℕ) → opTold c n line .refusal ≡ 0 → (opTold c n line .op .number < opCount) × So (allOf (λ (k : OperandKind). operandInRange c n k (operand (opTold c n line .op) k))
+      (kindsOf (opTold c n line .op .number)))
   unfolding opTold codedOf
   op-kept line = go (startsWith opKey line)
     where

@@ -1,4 +1,5 @@
 pub mod Keys
+pub mod Fields
 pub mod Ops
 pub mod Ranges
 pub mod InRange

@@ -1,83 +1,97 @@
 -- Laws of the operands of an op: the words, the turns of the loop over the operands, and the answers for a word and its operands.
 -- Assumes nothing.
-use mathlib.Core.List.{List, [], _∷_, _++_}
-use mathlib.Core.Path.{_≡_, refl, ap, _∙_}
+use mathlib.Core.Bool.{So, cond}
+use mathlib.Core.List.{List, [], _∷_, map}
+use mathlib.Core.Path.{_≡_, refl, _∙_}
 use Prim.Native.Nat.{ℕ, _+_, _≤_, _<_}
 use Prim.Native.Char.{code}
+use native.Mathlib.Nat.{sub-zero}
 use native.Mathlib.Numerals.{add-one}
 use native.Mathlib.Omega.{arith}
-use borrow.Author.Tests.{lt-ltb, le-ltb, eq-eqb, ne-eqb}
-use lib.ListN.{length, getD, drop, length-drop, drop-of-length-le}
-use lib.Seq.{drop-cons, getD-drop}
+use borrow.Author.Tests.{lt-ltb, le-ltb}
+use lib.Dec.{eqb, eqb·suc-zero, eqb·zero-suc, eqb·suc-suc}
+use lib.ListN.{length, getD, take, drop, drop-of-length-le}
+use lib.Seq.{drop-cons}
 use Rattle.node.specs.declared.OperandKind.{OperandKind}
 use Rattle.node.specs.declared.OperandKind.the-variants.{NoOperand}
+use Rattle.node.specs.Lists.{allOf}
 use Rattle.node.specs.Ops.{kindsOf, opCount, operandCounts, operandKind, opWords}
 use Rattle.node.proofs.Ops.{kinds-length}
-use Rattle.text.specs.Parts.{fieldsOf, indexOf, inFront, split}
-use Rattle.text.proofs.Parts.{split-some}
+use Rattle.text.specs.Parts.{placeFrom, fieldsOf, indexOf}
 use Rattle.plan_line.specs.declared.Coded.{Coded}
 use Rattle.plan_line.specs.declared.ReadOperand.{ReadOperand}
-use Rattle.plan_line.specs.Ops.{clauseWords, operandOf, withJoined, operandsOf, bare, noCode, opOf, codedOf}
+use Rattle.plan_line.specs.Ops.{behindField, clauseWords, operandOf, withJoined, operandsOf, bare, noCode, opOf, codedOf}
+use Rattle.words.specs.Words.{packed, PackedAs, placeOf}
+use Rattle.plan_line.proofs.Fields.{behind-first}
+use Rattle.words.proofs.Words.{isShort, index-place}
 
--- ---- the tables of words: the code has each as one text
-abbrev pub commas : List (List ℕ) → List ℕ
-commas [] = []
-commas (w ∷ []) = w
-commas (w ∷ v ∷ ws) = w ++ (code "," ∷ commas (v ∷ ws))
+-- ---- words, looked up by their numbers
+ops-short : So (allOf isShort opWords)
+unfolding packed
+ops-short = refl
 
-pub op-words : fieldsOf (commas opWords) ≡ opWords
-unfolding fieldsOf split inFront
-op-words = refl
+kinds-short : So (allOf isShort clauseWords)
+unfolding packed
+kinds-short = refl
 
-pub clause-words : fieldsOf (commas clauseWords) ≡ clauseWords
-unfolding fieldsOf split inFront
-clause-words = refl
+module _ (w : List ℕ) {r k : ℕ} (x : PackedAs w r) where
+  pub op-place : k ≡ placeOf r (map packed opWords) → k ≡ indexOf w opWords
+  op-place e = e ∙ index-place w x opWords ops-short
 
--- ---- the loop over the operands, behind i of them
-module _ (c n k : ℕ) (l : List ℕ) (i : ℕ) (o : Coded) {g : Coded}
-    (inv : operandsOf c n o (drop i (kindsOf k)) (drop i (drop 1 (fieldsOf l))) ≡ g) where
-  pub operand-more : {kind : OperandKind} {field : List ℕ} {x : ReadOperand} {o′ : Coded} → length (drop 1 (fieldsOf l)) ≡ getD operandCounts k 0
-      → i < getD operandCounts k 0 → kind ≡ operandKind k i → field ≡ getD (fieldsOf l) (i + 1) [] → x ≡ operandOf c n kind field
-      → o′ ≡ withJoined o kind x → operandsOf c n o′ (drop (i + 1) (kindsOf k)) (drop (i + 1) (drop 1 (fieldsOf l))) ≡ g
-  unfolding operandsOf operandKind
-  operand-more {kind} {field} counted h ek ef ex eo =
-      let a : drop i (kindsOf k) ≡ kind ∷ drop (i + 1) (kindsOf k) = rw (add-one, ek) (drop-cons (kindsOf k) i NoOperand (omega (arith, kinds-length k))) in
-      let j : 1 + i ≡ i + 1 = omega arith in
-      let at : getD (drop 1 (fieldsOf l)) i [] ≡ field = getD-drop 1 (fieldsOf l) i [] ∙ rw (j, ef) in
-      let b : drop i (drop 1 (fieldsOf l)) ≡ field ∷ drop (i + 1) (drop 1 (fieldsOf l)) =
-      rw (add-one, ← at) (drop-cons (drop 1 (fieldsOf l)) i [] (omega arith)) in
-      rw (eo, ex) (rw (a, b) at inv)
+  pub kind-place : k ≡ placeOf r (map packed clauseWords) → k ≡ indexOf w clauseWords
+  kind-place e = e ∙ index-place w x clauseWords kinds-short
 
-  pub operands-end : getD operandCounts k 0 ≤ i → o ≡ g
+-- ---- the loop over the operands: what is left of their kinds and of the fields
+module _ (c n : ℕ) where
+  abbrev pub readLeft : Coded → List OperandKind → List (List ℕ) → Coded
+  readLeft o [] [] = o
+  readLeft o [] (l ∷ ls) = noCode
+  readLeft o (kind ∷ kinds) [] = noCode
+  readLeft o (kind ∷ kinds) (l ∷ ls) = readLeft (withJoined o kind (operandOf c n kind l)) kinds ls
+
+  -- as many fields as kinds, or none of them counts
+  left-counted : (o : Coded) (kinds : List OperandKind) (ls : List (List ℕ))
+      → cond (eqb (length ls) (length kinds)) (operandsOf c n o kinds ls) noCode ≡ readLeft o kinds ls
   unfolding operandsOf
-  operands-end h =
-      let none : length (kindsOf k) ≤ i = omega (arith, kinds-length k) in
-      rw (drop-of-length-le (kindsOf k) none) at inv
+  left-counted o [] [] = refl
+  left-counted o [] (l ∷ ls) = rw (eqb·suc-zero (length ls))
+  left-counted o (kind ∷ kinds) [] = rw (eqb·zero-suc (length kinds))
+  left-counted o (kind ∷ kinds) (l ∷ ls) = rw (eqb·suc-suc (length ls) (length kinds)) (left-counted (withJoined o kind (operandOf c n kind l)) kinds ls)
+
+  pub left-all : (k : ℕ) (ls : List (List ℕ)) → k < opCount → readLeft (bare k) (kindsOf k) ls ≡ opOf c n k ls
+  unfolding opOf
+  left-all k ls h = rw (lt-ltb k opCount h, ← kinds-length k, left-counted (bare k) (kindsOf k) ls)
+
+  kinds-at : (k i : ℕ) → i < getD operandCounts k 0 → drop i (kindsOf k) ≡ operandKind k i ∷ drop (i + 1) (kindsOf k)
+  unfolding operandKind
+  kinds-at k i h = rw add-one (drop-cons (kindsOf k) i NoOperand (omega (arith, kinds-length k)))
+
+  kinds-none : (k i : ℕ) → getD operandCounts k 0 ≤ i → drop i (kindsOf k) ≡ []
+  kinds-none k i h = drop-of-length-le (kindsOf k) {i = i} (omega (arith, kinds-length k))
+
+  module _ (k i : ℕ) (o : Coded) (ls : List (List ℕ)) {g : Coded} (inv : readLeft o (drop i (kindsOf k)) ls ≡ g) where
+    pub operand-more : {kind : OperandKind} {field : List ℕ} {fs : List (List ℕ)} {x : ReadOperand} {p : Coded} → i < getD operandCounts k 0
+        → ls ≡ field ∷ fs → kind ≡ operandKind k i → x ≡ operandOf c n kind field → p ≡ withJoined o kind x → readLeft p (drop (i + 1) (kindsOf k)) fs ≡ g
+    operand-more h el ek ex ep = rw (ep, ex, ek) (rw (kinds-at k i h, el) at inv)
+
+    pub operand-missing : {x : Coded} → i < getD operandCounts k 0 → ls ≡ [] → x ≡ noCode → x ≡ g
+    operand-missing h el e = e ∙ rw (kinds-at k i h, el) at inv
+
+    pub operand-surplus : {field : List ℕ} {fs : List (List ℕ)} {x : Coded} → getD operandCounts k 0 ≤ i → ls ≡ field ∷ fs → x ≡ noCode → x ≡ g
+    operand-surplus h el e = e ∙ rw (kinds-none k i h, el) at inv
+
+    pub operands-end : getD operandCounts k 0 ≤ i → ls ≡ [] → o ≡ g
+    operands-end h el = rw (kinds-none k i h, el) at inv
 
 -- ---- a word and its operands
-fields-some : (l : List ℕ) → 1 ≤ length (fieldsOf l)
-unfolding fieldsOf
-fields-some l = let q = split-some (code ",") l in omega (arith, ap length (q .2))
+fields-behind : (l : List ℕ) {e : ℕ} → e ≡ placeFrom (code ",") 0 l → fieldsOf l ≡ take e l ∷ behindField e l
+fields-behind l {e} h = rw sub-zero at (behind-first l (omega arith) h)
 
-pub operand-fields : (l : List ℕ) (n : ℕ) → length (fieldsOf l) ≡ n + 1 → length (drop 1 (fieldsOf l)) ≡ n
-operand-fields l n h = omega (arith, length-drop 1 (fieldsOf l))
-
-pub word-at : {k : ℕ} {f w : List ℕ} → k ≡ indexOf f (fieldsOf (commas opWords)) → f ≡ w → k ≡ indexOf w opWords
-word-at is e = is ∙ rw (op-words, e)
-
-module _ (c n : ℕ) (l : List ℕ) {k : ℕ} {x : Coded} (is : k ≡ indexOf (getD (fieldsOf l) 0 []) opWords) where
+module _ (c n : ℕ) (l : List ℕ) {e k : ℕ} (h : e ≡ placeFrom (code ",") 0 l) (is : k ≡ indexOf (take e l) opWords) {x : Coded} where
   pub op-word : opCount ≤ k → x ≡ noCode → x ≡ codedOf c n (fieldsOf l)
   unfolding codedOf opOf
-  op-word h e = simp (← is, le-ltb k opCount h) e
+  op-word m q = simp (fields-behind l h, ← is, le-ltb k opCount m) q
 
-  pub op-count : k < opCount → (length (fieldsOf l) ≡ getD operandCounts k 0 + 1 → ⊥) → x ≡ noCode → x ≡ codedOf c n (fieldsOf l)
-  unfolding codedOf opOf
-  op-count h d e =
-      let other : length (drop 1 (fieldsOf l)) ≡ getD operandCounts k 0 → ⊥ =
-      λ q. d (omega (arith, q, fields-some l, length-drop 1 (fieldsOf l))) in
-      simp (← is, lt-ltb k opCount h, ne-eqb _ _ other) e
-
-  pub op-right : k < opCount → length (fieldsOf l) ≡ getD operandCounts k 0 + 1 → x ≡ operandsOf c n (bare k) (kindsOf k) (drop 1 (fieldsOf l))
-      → x ≡ codedOf c n (fieldsOf l)
-  unfolding codedOf opOf
-  op-right h d e = simp (← is, lt-ltb k opCount h, eq-eqb _ _ (operand-fields l (getD operandCounts k 0) d)) e
+  pub op-right : x ≡ opOf c n k (behindField e l) → x ≡ codedOf c n (fieldsOf l)
+  unfolding codedOf
+  op-right q = simp (fields-behind l h, ← is) q

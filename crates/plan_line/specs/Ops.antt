@@ -9,12 +9,16 @@
 --   withOperand o kind x    op o with the operand x of a kind
 --   withJoined o kind x     what is read of an op, with one operand more
 --   operandsOf c n o ks ls  what is read of an op, with the operands ls of the kinds ks
+--   FieldEnd s e            a field of s ends at place e: a comma stands there, or s ends
+--   behindField e s         the fields of s behind that one
 --   bare k noCode           op number k without operands; what is read of a wrong word or operand count
 --   opOf c n k ls           op number k with the operands ls
 --   codedOf c n fields      the op of a line, from its word and operands
 use mathlib.Core.Bool.{_&&_, _||_, cond}
 use mathlib.Core.List.{List, [], _∷_}
-use Prim.Native.Nat.{ℕ, _+_}
+use mathlib.Core.Path.{_≡_}
+use Prim.Native.Nat.{ℕ, _+_, _≤_}
+use Prim.Native.Char.{code}
 use lib.Dec.{eqb, ltb}
 use lib.ListN.{length, getD, drop}
 use Rattle.node.specs.declared.Op.{Op}
@@ -28,7 +32,7 @@ use Rattle.node.specs.Texts.{bytes}
 use Rattle.text.specs.declared.Parsed.{Parsed}
 use Rattle.text.specs.declared.Ranged.{Ranged}
 use Rattle.text.specs.Numbers.{malformed, numberOf, rangedOf}
-use Rattle.text.specs.Parts.{indexOf}
+use Rattle.text.specs.Parts.{placeFrom, fieldsOf, indexOf}
 use Rattle.text.specs.Values.{valueOf}
 use Rattle.plan_line.specs.declared.Coded.{Coded}
 use Rattle.plan_line.specs.declared.ReadOperand.{ReadOperand}
@@ -94,6 +98,13 @@ unfoldable pub operandsOf : ℕ → ℕ → Coded → List OperandKind → List 
 operandsOf c n o [] ls = o
 operandsOf c n o (kind ∷ kinds) [] = o
 operandsOf c n o (kind ∷ kinds) (l ∷ ls) = operandsOf c n (withJoined o kind (operandOf c n kind l)) kinds ls
+
+pub record FieldEnd (s : List ℕ) (e : ℕ) : Type 0 where
+  pub within : e ≤ length s
+  pub here : e ≡ placeFrom (code ",") e s
+
+unfoldable pub behindField : ℕ → List ℕ → List (List ℕ)
+behindField e s = drop 1 (fieldsOf (drop e s))
 
 -- op number k without operands
 abbrev pub bare : ℕ → Coded

@@ -11,15 +11,47 @@ use node::Value;
 use text::MALFORMED;
 use text::Parsed;
 use text::Ranged;
+ghost use mathlib.Core.List.{map};
 ghost use mathlib.Core.Path.{_≡_};
-ghost use lib.ListN.{length, getD, drop};
-ghost use Rattle.node.specs.Ops.{operandCounts, kindsOf};
+ghost use Prim.Native.Nat.{_<_};
+ghost use Rattle.node.specs.Ops.{opCount, opWords};
 ghost use Rattle.text.specs.Parts.{fieldsOf};
-ghost use Rattle.plan_line.specs.Ops.{worse, ranged, exact, clauseKind, operandOf, withValue, withOperand, withJoined, operandsOf, bare, noCode, codedOf};
+ghost use Rattle.words.specs.Words.{packed, placeOf};
+ghost use Rattle.plan_line.specs.Ops.{worse, clauseWords, ranged, exact, clauseKind, operandOf, withValue, withOperand, withJoined};
+ghost use Rattle.plan_line.specs.Ops.{FieldEnd, behindField, bare, noCode, opOf, codedOf};
 ghost use Rattle.plan_line.specs.Lines.{headerTold, countTold, opTold, startOf, noStart, risen, startTold};
 
 // Start numbers that do not rise.
 const NOT_RISING: u8 = 13;
+
+// The words of the ops, in their order, as `words::word_code` gives them.
+const OP_WORDS: [u64; 16] = [
+    0x0174_6573, // set
+    0x01_7970_6f63, // copy
+    0x01_666c_6573, // self
+    0x0164_6461, // add
+    0x01_646e_6573, // send
+    0x01_7469_7865, // exit
+    0x01_6b6e_696c, // link
+    0x01_6b6e_696c_6e75, // unlink
+    0x01_7061_7274, // trap
+    0x016e_7761_7073, // spawn
+    0x01_7663_6572, // recv
+    0x01_6573_7561_6c63, // clause
+    0x01_706d_756a, // jump
+    0x01_656d_6173, // same
+    0x01_7373_656c, // less
+    0x01_706f_7473, // stop
+];
+
+// The words of the clause kinds, in their order.
+const KIND_WORDS: [u64; 5] = [
+    0x0179_6e61, // any
+    0x0174_6e69, // int
+    0x01_6d6f_7461, // atom
+    0x0164_6970, // pid
+    0x01_6574_6f6e, // note
+];
 
 // An operand as it is read: the refusal, 11 or 12, or 0; its number; and its value, where it has one.
 struct ReadOperand {
@@ -102,17 +134,20 @@ fn worse(j: u8, k: u8) -> u8
 fn read_op(rest: &[u8], count: u8, len: u8) -> Coded
     ensures { λ r. ⌜ r ≡ codedOf count len (fieldsOf (now (rest .entry))) ⌝ }
 {
-    let words =
-        b"set,copy,self,add,send,exit,link,unlink,trap,spawn,recv,clause,jump,same,less,stop";
-    let k = text::word_index(words, text::field(rest, 0));
+    let e = text::find(rest, 0, b',');
+    let k = op_number(words::word_code(&rest[..e]));
     if k < (OPS as usize) {
-        let number = k as u8;
-        if text::count_fields(rest) == (node::operand_count(number) as usize) + 1 {
-            return operands(rest, number, count, len);
-        }
-        return no_code();
+        return operands(rest, e, k as u8, count, len);
     }
     no_code()
+}
+
+// The number of an op, by that of its word.
+fn op_number(code: u64) -> usize
+    ensures { λ r. ⌜ r ≡ placeOf code (map packed opWords) ⌝ }
+{
+    let table = OP_WORDS;
+    words::place_of(&table[..], code)
 }
 
 fn no_code() -> Coded
@@ -140,19 +175,27 @@ fn bare_op(number: u8) -> Coded
     Coded { refusal: 0, op }
 }
 
-// The operands of op `number`, each read by its kind.
-fn operands(rest: &[u8], number: u8, count: u8, len: u8) -> Coded
-    requires { ⌜ length (drop 1 (fieldsOf (now rest))) ≡ getD operandCounts number 0 ⌝ }
-    ensures { λ r. ⌜ r ≡ operandsOf count len (bare number) (kindsOf number) (drop 1 (fieldsOf (now (rest .entry)))) ⌝ }
+// The operands of op `number`, whose word ends at `word`, each read by its kind. A comma stands at e, or the line ends there.
+fn operands(rest: &[u8], word: usize, number: u8, count: u8, len: u8) -> Coded
+    requires { ⌜ FieldEnd (now rest) word × (number < opCount) ⌝ }
+    ensures { λ r. ⌜ r ≡ opOf count len number (behindField word (now (rest .entry))) ⌝ }
 {
     let n = node::operand_count(number);
     let mut coded = bare_op(number);
+    let mut e = word;
     let mut i: u8 = 0;
     while i < n {
+        if rest.len() <= e {
+            return no_code();
+        }
+        let at = e + 1;
         let kind = node::operand_kind(number, i);
-        let field = text::field(rest, (i as usize) + 1);
-        coded = with_joined(coded, kind, read_operand(field, kind, count, len));
+        e = text::find(rest, at, b',');
+        coded = with_joined(coded, kind, read_operand(&rest[at..e], kind, count, len));
         i += 1;
+    }
+    if e < rest.len() {
+        return no_code();
     }
     coded
 }
@@ -257,7 +300,7 @@ fn ranged(s: &[u8], low: u8, high: u8) -> ReadOperand
 fn clause_kind(s: &[u8]) -> ReadOperand
     ensures { λ r. ⌜ r ≡ clauseKind (now (s .entry)) ⌝ }
 {
-    let k = text::word_index(b"any,int,atom,pid,note", s);
+    let k = kind_number(words::word_code(s));
     if k < (LAST_KIND as usize) {
         return ReadOperand {
             refusal: 0,
@@ -266,6 +309,14 @@ fn clause_kind(s: &[u8]) -> ReadOperand
         };
     }
     exact_value(text::read_value(s))
+}
+
+// Which of the words of clause kinds it is.
+fn kind_number(code: u64) -> usize
+    ensures { λ r. ⌜ r ≡ placeOf code (map packed clauseWords) ⌝ }
+{
+    let table = KIND_WORDS;
+    words::place_of(&table[..], code)
 }
 
 fn exact_value(x: Parsed) -> ReadOperand

@@ -7,7 +7,7 @@ use native.Mathlib.Nat.{not-suc-le-zero, le-of-suc-le-suc}
 use native.Mathlib.Omega.{arith}
 use lib.ListN.{length, getD}
 use Rattle.node.proofs.Lists.{allFrom-at, allOf-append, map-rising-at, map-rising-length}
-use Rattle.node.specs.Lists.{rising, allFrom, allOf, allTwo}
+use Rattle.node.specs.Lists.{without, rising, allFrom, allOf, allTwo}
 
 pub both : {a b : Bool} → So a → So b → So (a && b)
 both {a} {b} h k = and-eq-true-iff a b .1 (h, k)
@@ -41,6 +41,11 @@ module _ {A : Type 0} (f : A → Bool) where
   pub allOf-parts : (l r : List A) → So (allOf f (l ++ r)) → So (allOf f l) × So (allOf f r)
   allOf-parts l r h = parts (allOf f l) (allOf f r) (rw (allOf-append f l r) at h)
 
+  pub allOf-without : (k : ℕ) (l : List A) → So (allOf f l) → So (allOf f (without k l))
+  allOf-without k [] h = refl
+  allOf-without zero (x ∷ l) h = parts (f x) (allOf f l) h .1
+  allOf-without (suc k) (x ∷ l) h = let t = parts (f x) (allOf f l) h in both (t .0) (allOf-without k l (t .1))
+
   pub allOf-flatMap : {B : Type 0} (g : B → List A) (l : List B) → So (allOf f (flatMap g l)) → So (allOf (λ b. allOf f (g b)) l)
   unfolding flatMap
   allOf-flatMap g [] h = refl
@@ -49,6 +54,11 @@ module _ {A : Type 0} (f : A → Bool) where
   pub allOf-map : {B : Type 0} (g : B → A) (l : List B) → allOf f (map g l) ≡ allOf (λ b. f (g b)) l
   allOf-map g [] = refl
   allOf-map g (b ∷ l) = ap (λ (t : Bool). f (g b) && t) (allOf-map g l)
+
+pub without-length : {A : Type 0} (k : ℕ) (l : List A) → length (without k l) ≤ length l
+without-length k [] = omega arith
+without-length zero (x ∷ l) = omega arith
+without-length (suc k) (x ∷ l) = let h = without-length k l in omega arith
 
 pub rising-at : (i n k d : ℕ) → k < n → getD (rising i n) k d ≡ i + k
 rising-at i zero k d h = absurd (not-suc-le-zero h)

@@ -1,19 +1,18 @@
 -- Arrivals: what is shown of each signal is one record (`Heard`), and what follows of an arrival. Assumes nothing.
 use mathlib.Core.Bool.{Bool, true, false, So}
-use mathlib.Core.List.{List}
+use mathlib.Core.List.{List, [], _∷_, _++_}
 use mathlib.Core.Path.{_≡_, refl, ap}
 use Prim.Native.Nat.{ℕ, _-_}
 use native.Mathlib.Omega.{arith}
 use borrow.Author.Tests.{not-true, ltb-true}
 use lib.Dec.{eqb}
-use lib.ListN.{length-set}
+use lib.ListN.{length}
 use Rattle.node.specs.declared.Message.{Message}
 use Rattle.node.specs.declared.Message.the-variants.{Plain, Note}
 use Rattle.node.specs.declared.Process.{Process}
 use Rattle.node.specs.declared.Signal.{Signal}
 use Rattle.node.specs.declared.Signal.the-variants.{Msg, Exit, Link, Unlink}
 use Rattle.node.specs.declared.Value.{Value}
-use Rattle.node.specs.Mailboxes.{joined, sixteenSlots}
 use Rattle.node.specs.Processes.{linked, unlinked, ended}
 use Rattle.node.specs.Values.{killed, isNumber, valueSound, messageSound}
 use Rattle.rules.specs.Answers.{Answer}
@@ -24,7 +23,7 @@ use Rattle.rules.specs.Nodes.{standing, standingSound, signalSound, soun
 use Rattle.rules.specs.Steps.{isUnborn}
 use Rattle.rules.proofs.All.{both}
 use Rattle.rules.proofs.Cases.{joins-any, exits-any, arrives-any}
-use Rattle.rules.proofs.Keeps.{Fills, Good, becomes-alive, ends-good}
+use Rattle.rules.proofs.Keeps.{Good, becomes-alive, ends-good}
 use Rattle.rules.proofs.Living.{Alive, alive, alive-sound, live-born, joined-mailed, linked-alive, unlinked-alive, mailed-alive}
 use Rattle.rules.proofs.Told.{Told, Ruled}
 
@@ -39,26 +38,24 @@ module _ (i j : ℕ) (st : State) where
   -- of answer x to signal y: which numbers it is refused with; arrays keep their lengths; what an effect must keep is kept
   pub record Heard (y : Signal) (x : Answer Effect) : Type 0 where
     pub told : Told Ruled x
-    pub full : So (sixteenSlots (st .mail)) → Fills x
-    pub good : (codes : List (List Instruction)) → Hears codes y → Good codes i x
+    pub good : (codes : List (List Instruction)) → Hears codes y → Good codes i (st .mail) x
 
   becomes-heard : (y : Signal) (q : Process) → ((codes : List (List Instruction)) → Hears codes y → Alive codes i q (st .mail)) → Heard y (becomes st q)
-  becomes-heard y q a = record { told = tt; full = λ s. s; good = λ codes g. becomes-alive codes i st q (a codes g) }
+  becomes-heard y q a = record { told = tt; good = λ codes g. becomes-alive codes i st q (a codes g) }
 
   ends-heard : (y : Signal) (v : Value) → ((codes : List (List Instruction)) → Hears codes y → So (valueSound v)) → Heard y (ends st v)
   unfolding ended
-  ends-heard y v h = record { told = tt; full = λ s. s; good = λ codes g. ends-good codes i st v (h codes g) (g .alive .apart) }
+  ends-heard y v h = record { told = tt; good = λ codes g. ends-good codes i st v (h codes g) (g .alive .apart) }
 
   joins-heard : (y : Signal) (q : Process) (x : Message) → ((codes : List (List Instruction)) → Hears codes y → Alive codes i q (st .mail)) →
       ((codes : List (List Instruction)) → Hears codes y → So (messageSound x)) → Heard y (joinsWith st q x)
-  unfolding joined
   joins-heard y q x a h = record {
     told = joins-any st (Told Ruled) q x (omega arith, omega arith) (λ e. tt);
-    full = λ s. joins-any st Fills q x tt (λ e. rw (length-set (st .mail .slots) (st .mail .count) (record { message = x })) s);
-    good = λ codes g. joins-any st (Good codes i) q x tt (λ e.
-        let m = joined (st .mail) x in
-        let next = mailed-alive codes i q (st .mail) (a codes g) m (joined-mailed (st .mail) (g .alive .mailed) x (h codes g) (ltb-true (st .mail .count) 16 e)) in
-        record { sound = alive-sound codes i q m next; born = live-born codes i q m next; sent = tt; birth = tt; apart = tt });
+    good = λ codes g. joins-any st (Good codes i (st .mail)) q x tt (λ e.
+        let m = st .mail ++ (x ∷ []) in
+        let room = ltb-true (length (st .mail)) 16 e in
+        let next = mailed-alive codes i q (st .mail) (a codes g) m (joined-mailed (st .mail) (g .alive .mailed) x (h codes g) room) in
+        record { sound = alive-sound codes i q m next; mail = room; born = live-born codes i q m next; sent = tt; birth = tt; apart = tt });
   }
 
   -- ---- a row to a signal
@@ -89,13 +86,11 @@ module _ (i j : ℕ) (st : State) where
   pub arrives-told : (y : Signal) → Told Ruled (arrives i j st y)
   arrives-told y = arrives-any st (Told Ruled) i j y (λ q. (omega arith, omega arith)) (λ q. takes-heard y .told) (λ q. tt) (λ q. tt)
 
-  pub arrives-full : (y : Signal) → So (sixteenSlots (st .mail)) → Fills (arrives i j st y)
-  arrives-full y s = arrives-any st Fills i j y (λ q. tt) (λ q. takes-heard y .full s) (λ q. s) (λ q. s)
-
   pub arrives-good : (codes : List (List Instruction)) → So (isNumber i) → So (standingSound codes i (standing (st .process) (st .mail))) → So (isNumber j) → (y : Signal) →
-      So (signalSound j i y) → Good codes i (arrives i j st y)
+      So (signalSound j i y) → Good codes i (st .mail) (arrives i j st y)
   arrives-good codes number sound from y h =
-      let dropped : isUnborn (st .process .stage) ≡ false → Good codes i (becomes st (st .process)) = λ b. record { sound = sound; born = b; sent = tt; birth = tt; apart = tt } in
-      arrives-any st (Good codes i) i j y (λ q. tt)
+      let dropped : isUnborn (st .process .stage) ≡ false → Good codes i (st .mail) (becomes st (st .process)) = λ b. record { sound = sound; mail = tt; born = b; sent = tt; birth = tt; apart = tt }
+      in
+      arrives-any st (Good codes i (st .mail)) i j y (λ q. tt)
       (λ q. takes-heard y .good codes (record { number = number; from = from; alive = alive codes i (st .process) (st .mail) q sound; sound = h }))
       (λ q. dropped (ap isUnborn q)) (λ q. dropped (ap isUnborn q))

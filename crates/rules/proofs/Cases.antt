@@ -20,7 +20,6 @@ use Rattle.node.specs.declared.Stage.{Stage}
 use Rattle.node.specs.declared.Stage.the-variants.{Unborn, Live, Closing, Gone}
 use Rattle.node.specs.declared.Value.{Value}
 use Rattle.node.specs.declared.Value.the-variants.{Int, Atom, Pid}
-use Rattle.node.specs.Mailboxes.{messages, joined}
 use Rattle.node.specs.Nodes.{noOp}
 use Rattle.node.specs.Processes.{moved, advanced, linksTo, unlinked, gone}
 use Rattle.node.specs.Sets.{lowestPeer}
@@ -28,7 +27,7 @@ use Rattle.node.specs.Values.{normal, kill, killed, badarg, badarith, pid, isNu
 use Rattle.node.proofs.Sets.{lowest-number}
 use Rattle.rules.specs.Answers.{Answer, refused, done, need, mailboxFull, noFit, ownerUnborn, ownerGone}
 use Rattle.rules.specs.Arrive.{joinsWith, notes, exits, takes, arrivesIn, arrives}
-use Rattle.rules.specs.Effects.{State, Effect, becomes, ends, sends}
+use Rattle.rules.specs.Effects.{State, Effect, joining, becomes, ends, sends}
 use Rattle.rules.specs.Receive.{Fit, search, receivesFit, receives}
 use Rattle.rules.specs.Run.{setsRegister, jumpsIf, integerIn, onIntegers, setsSum, adds, compares, processIn, toProcess, sendsTo, toOther, runsOp, closesTo, closes, runsLive, runsIn, runs}
 use Rattle.rules.proofs.All.{both}
@@ -76,12 +75,12 @@ module _ (st : State) (P : Answer Effect → Type 0) where
       go false e = h e
 
   pub receives-any : (code : List Op) (o : Op) → P (refused noFit) →
-      ((f : Fit) → search (take (o .small) (drop (st .process .place + 1) code)) 0 (messages (st .mail)) ≡ some f → P (receivesFit st (some f))) →
+      ((f : Fit) → search (take (o .small) (drop (st .process .place + 1) code)) 0 (st .mail) ≡ some f → P (receivesFit st (some f))) →
       P (receives code st o)
   unfolding receives
-  receives-any code o g h = go (search (take (o .small) (drop (st .process .place + 1) code)) 0 (messages (st .mail))) refl
+  receives-any code o g h = go (search (take (o .small) (drop (st .process .place + 1) code)) 0 (st .mail)) refl
     where
-      go : (f : Option Fit) → search (take (o .small) (drop (st .process .place + 1) code)) 0 (messages (st .mail)) ≡ f → P (receivesFit st f)
+      go : (f : Option Fit) → search (take (o .small) (drop (st .process .place + 1) code)) 0 (st .mail) ≡ f → P (receivesFit st f)
       go none e = g
       go (some f) e = h f e
 
@@ -118,10 +117,10 @@ module _ (st : State) (P : Answer Effect → Type 0) where
   -- ---- an arrival
 
   pub joins-any : (q : Process) (x : Message) → P (refused mailboxFull) →
-      (ltb (st .mail .count) 16 ≡ true → P (done (record { process = q; mail = joined (st .mail) x; sent = none; born = none }))) → P (joinsWith st q x)
-  joins-any q x g h = go (ltb (st .mail .count) 16) refl
+      (ltb (length (st .mail)) 16 ≡ true → P (done (record { process = q; mail = joining x; sent = none; born = none }))) → P (joinsWith st q x)
+  joins-any q x g h = go (ltb (length (st .mail)) 16) refl
     where
-      go : (b : Bool) → ltb (st .mail .count) 16 ≡ b → P (need b mailboxFull (done (record { process = q; mail = joined (st .mail) x; sent = none; born = none })))
+      go : (b : Bool) → ltb (length (st .mail)) 16 ≡ b → P (need b mailboxFull (done (record { process = q; mail = joining x; sent = none; born = none })))
       go true e = h e
       go false e = g
 

@@ -1,6 +1,6 @@
 -- Soundness is kept by every accepted step and by play. Assumes nothing.
 use mathlib.Core.Bool.{Bool, true, false, So, cond, _&&_}
-use mathlib.Core.List.{List, [], _∷_, map}
+use mathlib.Core.List.{List, [], _∷_, _++_, map}
 use mathlib.Core.Logic.{_≢_}
 use mathlib.Core.Option.{Option, none, some}
 use mathlib.Core.Path.{_≡_, refl, _∙_, ap, subst}
@@ -9,37 +9,38 @@ use native.Mathlib.Decide.{ℕ-discrete}
 use native.Mathlib.Omega.{arith}
 use borrow.Author.Tests.{leb-true, le-leb, ltb-true, le-ltb}
 use lib.Dec.{leb, ltb}
-use lib.ListN.{length, getD, set}
-use lib.Seq.{getD-set-other}
+use lib.ListN.{length, getD, set, length-append, length-set}
+use lib.Seq.{getD-set-same, getD-set-other}
 use Rattle.node.specs.declared.Cell.{Cell}
-use Rattle.node.specs.declared.Mailbox.{Mailbox}
+use Rattle.node.specs.declared.Message.{Message}
 use Rattle.node.specs.declared.Node.{Node}
 use Rattle.node.specs.declared.Process.{Process}
-use Rattle.node.specs.declared.Row.{Row}
 use Rattle.node.specs.declared.Signal.{Signal}
-use Rattle.node.specs.Lists.{firsts, rising, allFrom, allOf}
-use Rattle.node.specs.Mailboxes.{emptied, sixteenSlots}
-use Rattle.node.specs.Nodes.{noProcess, noMailbox, noRow, pair}
-use Rattle.node.specs.Rows.{noSignal, signals, pushed, popped}
+use Rattle.node.specs.declared.Slot.{Slot}
+use Rattle.node.specs.Blocks.{Block, Shelf, blockOf, changed, joined, left, popped, emptied}
+use Rattle.node.specs.Lists.{rising, allFrom, allOf}
+use Rattle.node.specs.Mailboxes.{slotOf, messages}
+use Rattle.node.specs.Nodes.{noProcess, pair, mailShelf, flightShelf}
+use Rattle.node.specs.Rows.{noSignal, cellOf, signals, oldest}
+use Rattle.node.proofs.Blocks.{Room, Keeping, whole, blockOf-here, blockOf-else, joined-keeps, left-keeps, popped-keeps, emptied-keeps}
 use Rattle.node.proofs.Contents.{signals-length}
 use Rattle.node.proofs.Lists.{map-rising-at, map-rising-length}
 use Rattle.rules.specs.Answers.{Answer, refused, done, scheduleTooLong}
 use Rattle.rules.specs.Behaviours.{Instruction, instruction, codeSound}
-use Rattle.rules.specs.Effects.{Effect, Sending, Birth}
+use Rattle.rules.specs.Effects.{MailChange, unchanged, joining, leaving, mailBehind, Effect, Sending, Birth}
 use Rattle.rules.specs.Nodes.{Sound, sound, shaped, viewSound, view, behavioursOf, code, process, mailbox, row, standing, standingSound, signalSound, rowSound}
 use Rattle.rules.specs.Arrive.{arrives}
 use Rattle.rules.specs.Run.{runs}
-use Rattle.rules.specs.Steps.{Action, run, arrive, owner, at, withArrival, withSending, withBirth, commit, numbered, signalWaits, pairHasRoom, incoming, decide, step, state, playsOn, played, play}
+use Rattle.rules.specs.Steps.{Action, run, arrive, owner, withArrival, withSending, withMail, withoutMail, withBirth, commit, numbered, signalWaits, pairHasRoom, incoming, decide}
+use Rattle.rules.specs.Steps.{step, state, playsOn, played, play}
 use Rattle.node.specs.Values.{numbers, isNumber, fitsInt}
 use Rattle.rules.proofs.Accepted.{Act, step-goes}
-use Rattle.rules.proofs.All.{both, parts, allOf-at, allOf-any, allOf-map, made-all, all-made}
-use Rattle.rules.proofs.Firsts.{firsts-joined, firsts-left, set-read, at-read}
-use Rattle.rules.proofs.Arrivals.{arrives-full, arrives-good}
-use Rattle.rules.proofs.Keeps.{Fills, SentOk, BornOk, Keeps, Good}
-use Rattle.rules.proofs.Living.{emptied-sound}
-use Rattle.rules.proofs.Runs.{runs-full, runs-good}
-use Rattle.rules.proofs.Records.{number-bounds}
-use Rattle.rules.proofs.Shape.{Sized, sized-of, of-sized, sized-kept}
+use Rattle.rules.proofs.All.{both, parts, allOf-any, allOf-join, made-all, all-made}
+use Rattle.rules.proofs.Arrivals.{arrives-good}
+use Rattle.rules.proofs.Keeps.{SentOk, BornOk, MailOk, Keeps, Good}
+use Rattle.rules.proofs.Runs.{runs-good}
+use Rattle.rules.proofs.Records.{number-bounds, messages-joined, messages-left, messages-emptied, signals-joined, signals-popped}
+use Rattle.rules.proofs.Shape.{SizedMail, SizedRows, Sized, sized-of, of-sized, mail-room, row-room, mail-sized, arrival-sized, sized-kept}
 
 -- ---- a sound node, part by part
 
@@ -47,7 +48,7 @@ pub record Parts (n : Node) : Type 0 where
   pub few : So (leb 1 (length (behavioursOf n)) && leb (length (behavioursOf n)) 8)
   pub codes : So (allOf (codeSound (length (behavioursOf n))) (behavioursOf n))
   pub processes : (i : ℕ) → So (isNumber i) → So (standingSound (behavioursOf n) i (standing (process n i) (mailbox n i)))
-  pub rows : (j i : ℕ) → So (isNumber j) → So (isNumber i) → So (rowSound j i (signals (row n j i)))
+  pub rows : (j i : ℕ) → So (isNumber j) → So (isNumber i) → So (rowSound j i (row n j i))
   pub sized : Sized n
 
 pub number-of : (i : ℕ) → 1 ≤ i → i < 17 → So (isNumber i)
@@ -62,7 +63,7 @@ module _ (n : Node) where
   processesSound = allFrom (standingSound (behavioursOf n)) 1 (map (λ i. standing (process n i) (mailbox n i)) numbers)
 
   abbrev rowsSound : Bool
-  rowsSound = allFrom (λ j rows. allFrom (rowSound j) 1 rows) 1 (map (λ j. map (λ i. signals (row n j i)) numbers) numbers)
+  rowsSound = allFrom (λ j rows. allFrom (rowSound j) 1 rows) 1 (map (λ j. map (row n j) numbers) numbers)
 
   pub parts-of : Sound n → Parts n
   unfolding sound viewSound view
@@ -79,7 +80,8 @@ module _ (n : Node) where
         rows = λ j i k l.
             let x = number-bounds j k in
             let y = number-bounds i l in
-            made-all (λ i. signals (row n j i)) (rowSound j) 1 16 (made-all (λ j. map (λ i. signals (row n j i)) numbers) (λ j rows. allFrom (rowSound j) 1 rows) 1 16 (a .1) j (omega arith) (omega arith)) i (omega arith) (omega arith);
+            made-all (row n j) (rowSound j) 1 16 (made-all (λ j. map (row n j) numbers) (λ j rows. allFrom (rowSound j) 1 rows) 1 16 (a .1) j (omega arith) (omega arith)) i (omega arith)
+            (omega arith);
         sized = sized-of n (s .1);
       }
 
@@ -88,8 +90,8 @@ module _ (n : Node) where
   of-parts p =
       both (both (both (both (p .few) (p .codes))
       (all-made (λ i. standing (process n i) (mailbox n i)) (standingSound (behavioursOf n)) 1 16 (λ i a b. p .processes i (number-of i a (omega arith)))))
-      (all-made (λ j. map (λ i. signals (row n j i)) numbers) (λ j rows. allFrom (rowSound j) 1 rows) 1 16 (λ j a b.
-      all-made (λ i. signals (row n j i)) (rowSound j) 1 16 (λ i c d. p .rows j i (number-of j a (omega arith)) (number-of i c (omega arith))))))
+      (all-made (λ j. map (row n j) numbers) (λ j rows. allFrom (rowSound j) 1 rows) 1 16 (λ j a b.
+      all-made (row n j) (rowSound j) 1 16 (λ i c d. p .rows j i (number-of j a (omega arith)) (number-of i c (omega arith))))))
       (of-sized n (p .sized))
 
   -- the code of a behaviour that the node has
@@ -107,48 +109,26 @@ module _ (n : Node) where
 -- ---- rows
 
 module _ (j i : ℕ) where
-  abbrev pub RowOk : Row → Type 0
-  RowOk r = So (rowSound j i (signals r))
+  abbrev pub RowOk : List Signal → Type 0
+  RowOk r = So (rowSound j i r)
 
-  signalOk : Cell → Bool
-  signalOk c = signalSound j i (c .signal)
-
-  cells-sound : (r : Row) → allOf (signalSound j i) (signals r) ≡ allOf signalOk (firsts noSignal (r .count) (r .cells))
-  unfolding signals signalOk
-  cells-sound r = allOf-map (signalSound j i) (λ (c : Cell). c .signal) (firsts noSignal (r .count) (r .cells))
-
-  row-parts : (r : Row) → RowOk r → (r .count ≤ 4) × So (allOf signalOk (firsts noSignal (r .count) (r .cells)))
+  row-parts : (r : List Signal) → RowOk r → (length r ≤ 4) × So (allOf (signalSound j i) r)
   unfolding rowSound
-  row-parts r h =
-      let w = parts (leb (length (signals r)) 4) (allOf (signalSound j i) (signals r)) h in
-      (rw (signals-length r) at (leb-true (length (signals r)) 4 (w .0)), rw (cells-sound r) at (w .1))
+  row-parts r h = let w = parts (leb (length r) 4) (allOf (signalSound j i) r) h in (leb-true (length r) 4 (w .0), w .1)
 
-  parts-row : (r : Row) → r .count ≤ 4 → So (allOf signalOk (firsts noSignal (r .count) (r .cells))) → RowOk r
+  parts-row : (r : List Signal) → length r ≤ 4 → So (allOf (signalSound j i) r) → RowOk r
   unfolding rowSound
-  parts-row r h g =
-      let few : So (leb (length (signals r)) 4) = rw (signals-length r) (le-leb (r .count) 4 h) in
-      let all : So (allOf (signalSound j i) (signals r)) = rw (cells-sound r) g in
-      both few all
+  parts-row r h g = both (le-leb (length r) 4 h) g
 
-  -- each of its signals is sound
-  pub row-signals : (r : Row) → RowOk r → So (allOf (signalSound j i) (signals r))
-  unfolding rowSound
-  row-signals r h = parts (leb (length (signals r)) 4) (allOf (signalSound j i) (signals r)) h .1
+  -- its first signal leaves
+  behind-ok : (x : Signal) (r : List Signal) → RowOk (x ∷ r) → RowOk r
+  behind-ok x r h = let w = row-parts (x ∷ r) h in parts-row r (omega arith) (parts (signalSound j i x) (allOf (signalSound j i) r) (w .1) .1)
 
-  empty-ok : RowOk noRow
-  unfolding rowSound signals
-  empty-ok = refl
-
-  popped-ok : (r : Row) → RowOk r → RowOk (popped r)
-  unfolding popped signalOk fitsInt
-  popped-ok r h = let w = row-parts r h in parts-row (popped r) (omega arith) (firsts-left signalOk noSignal refl 0 (r .count) (r .cells) (w .1))
-
-  pushed-ok : (r : Row) (x : Signal) → RowOk r → So (signalSound j i x) → r .count < 4 → RowOk (pushed r x)
-  unfolding pushed signalOk fitsInt
-  pushed-ok r x h g f =
+  -- a signal joins
+  joined-ok : (r : List Signal) (x : Signal) → RowOk r → So (signalSound j i x) → length r < 4 → RowOk (r ++ (x ∷ []))
+  joined-ok r x h g f =
       let w = row-parts r h in
-      let e : min (r .count + 1) 255 ≡ suc (r .count) = omega arith in
-      parts-row (pushed r x) (omega arith) (rw e (firsts-joined signalOk noSignal refl (record { signal = x }) g (r .count) (r .cells) (w .1)))
+      parts-row (r ++ (x ∷ [])) (rw (length-append r (x ∷ [])) (omega arith)) (allOf-join (signalSound j i) r (x ∷ []) (w .1) (both g refl))
 
 -- two ordered pairs of numbers stand apart
 pub pair-same : (j i l m : ℕ) → So (isNumber j) → So (isNumber i) → So (isNumber l) → So (isNumber m) → pair j i ≡ pair l m → (j ≡ l) × (i ≡ m)
@@ -159,93 +139,147 @@ pair-same j i l m a b c d e =
     let w = number-bounds m d in
     (omega arith, omega arith)
 
-abbrev pub RowsOk : List Row → Type 0
-RowsOk X = (j i : ℕ) → So (isNumber j) → So (isNumber i) → RowOk j i (getD X (pair j i) noRow)
+pub pair-room : (s : Shelf Cell) → SizedRows s → (j i : ℕ) → So (isNumber j) → So (isNumber i) → Room 4 (pair j i) s
+pair-room s z j i a b =
+    let x = number-bounds j a in
+    let y = number-bounds i b in
+    row-room s z (pair j i) (omega arith)
+
+-- the row from j to i of a shelf
+abbrev pub rowIn : Shelf Cell → ℕ → ℕ → List Signal
+rowIn s j i = signals (blockOf 4 (pair j i) s)
+
+pub four : (s : Shelf Cell) → SizedRows s → (j i : ℕ) → So (isNumber j) → So (isNumber i) → length (blockOf 4 (pair j i) s .cells) ≡ 4
+four s z j i a b = whole 4 (pair j i) s (pair-room s z j i a b)
+
+abbrev pub RowsOk : Shelf Cell → Type 0
+RowsOk s = (j i : ℕ) → So (isNumber j) → So (isNumber i) → RowOk j i (rowIn s j i)
 
 -- one row changed where it stands
-at-ok : (f : Row → Row) (X : List Row) (l m : ℕ) → RowsOk X → So (isNumber l) → So (isNumber m) → RowOk l m (f (getD X (pair l m) noRow)) → RowsOk (at noRow f (pair l m) X)
-at-ok f X l m ok a b h j i c d = go (ℕ-discrete (pair j i) (pair l m))
+changed-ok : (f : Block Cell → Block Cell) → Keeping f → (s : Shelf Cell) → SizedRows s → (l m : ℕ) → RowsOk s → So (isNumber l) → So (isNumber m) → RowOk l m (signals (f (blockOf 4 (pair l m) s))) →
+    RowsOk (changed 4 f (pair l m) s)
+changed-ok f keeps s z l m ok a b h j i c d = go (ℕ-discrete (pair j i) (pair l m))
   where
-    go : Dec (pair j i ≡ pair l m) → RowOk j i (getD (at noRow f (pair l m) X) (pair j i) noRow)
+    go : Dec (pair j i ≡ pair l m) → RowOk j i (rowIn (changed 4 f (pair l m) s) j i)
     go (yes e) =
         let w = pair-same j i l m c d a b e in
-        rw (w .0, w .1) (at-read (RowOk l m) noRow X (pair l m) f (empty-ok l m) h)
-    go (no n) = unfold at in rw (getD-set-other X (pair l m) (pair j i) (f (getD X (pair l m) noRow)) noRow n) (ok j i c d)
+        rw (w .0, w .1, blockOf-here 4 f keeps (pair l m) s (pair-room s z l m a b)) h
+    go (no n) = rw (blockOf-else 4 f keeps (pair l m) s (pair j i) n) (ok j i c d)
 
 pub owner-number : (a : Action) → So (numbered a) → So (isNumber (owner a))
 unfolding numbered
 owner-number (run i) h = h
 owner-number (arrive i j) h = parts (isNumber i) (isNumber j) h .0
 
-arrival-ok : (X : List Row) (a : Action) → RowsOk X → So (numbered a) → RowsOk (withArrival X a)
-unfolding numbered
-arrival-ok X (run i) ok h = ok
-arrival-ok X (arrive i j) ok h = let w = parts (isNumber i) (isNumber j) h in at-ok popped X j i ok (w .1) (w .0) (popped-ok j i _ (ok j i (w .1) (w .0)))
+arrival-ok : (n : Node) (a : Action) → Sized n → RowsOk (flightShelf n) → So (numbered a) → So (signalWaits n a) → RowsOk (withArrival (flightShelf n) a)
+unfolding numbered signalWaits
+arrival-ok n (run i) z ok h g = ok
+arrival-ok n (arrive i j) z ok h g =
+    let w = parts (isNumber i) (isNumber j) h in
+    let s = flightShelf n in
+    let b = blockOf 4 (pair j i) s in
+    let e = signals-popped b (four s (z .flight) j i (w .1) (w .0)) (ltb-true 0 (length (row n j i)) g) in
+    changed-ok (popped noSignal) (popped-keeps noSignal) s (z .flight) j i ok (w .1) (w .0) (behind-ok j i (oldest b) (signals (popped noSignal b)) (rw e at (ok j i (w .1) (w .0))))
 
 -- an arrival makes no row longer
-pub arrival-count : (X : List Row) (a : Action) (k : ℕ) → getD (withArrival X a) k noRow .count ≤ getD X k noRow .count
-arrival-count X (run i) k = omega arith
-arrival-count X (arrive i j) k = go (ℕ-discrete k (pair j i))
+pub arrival-few : (s : Shelf Cell) → SizedRows s → (a : Action) → So (numbered a) → (j i : ℕ) → length (rowIn (withArrival s a) j i) ≤ length (rowIn s j i)
+unfolding numbered
+arrival-few s z (run m) h j i = omega arith
+arrival-few s z (arrive m l) h j i = go (ℕ-discrete (pair j i) (pair l m))
   where
-    go : Dec (k ≡ pair j i) → getD (at noRow popped (pair j i) X) k noRow .count ≤ getD X k noRow .count
-    go (yes e) = rw e (at-read (λ r. r .count ≤ getD X (pair j i) noRow .count) noRow X (pair j i) popped (omega arith) (unfold popped in (omega arith)))
-    go (no n) = unfold at in rw (getD-set-other X (pair j i) k (popped (getD X (pair j i) noRow)) noRow n) (omega arith)
+    go : Dec (pair j i ≡ pair l m) → length (rowIn (changed 4 (popped noSignal) (pair l m) s) j i) ≤ length (rowIn s j i)
+    go (yes e) =
+        let w = parts (isNumber m) (isNumber l) h in
+        let b = blockOf 4 (pair l m) s in
+        rw (e, blockOf-here 4 (popped noSignal) (popped-keeps noSignal) (pair l m) s (pair-room s z l m (w .1) (w .0)), signals-length (popped noSignal b), signals-length b)
+        (unfold popped in (omega arith))
+    go (no n) = rw (blockOf-else 4 (popped noSignal) (popped-keeps noSignal) (pair l m) s (pair j i) n) (omega arith)
 
-sending-ok : (n : Node) (a : Action) (i : ℕ) (o : Option Sending) → RowsOk (withArrival (n .flight) a) → So (isNumber i) → SentOk i o → So (pairHasRoom n i o) → RowsOk (withSending (withArrival (n .flight) a) i o)
+sending-ok : (n : Node) (a : Action) (i : ℕ) (o : Option Sending) → Sized n → So (numbered a) → RowsOk (withArrival (flightShelf n) a) → So (isNumber i) → SentOk i o → So (pairHasRoom n i o) →
+    RowsOk (withSending (withArrival (flightShelf n) a) i o)
 unfolding pairHasRoom
-sending-ok n a i none ok m h r = ok
-sending-ok n a i (some x) ok m h r =
-    let c = arrival-count (n .flight) a (pair i (x .to)) in
-    at-ok (λ r. pushed r (x .signal)) (withArrival (n .flight) a) i (x .to) ok m (h .0) (pushed-ok i (x .to) _ (x .signal) (ok i (x .to) m (h .0)) (h .1) (omega (arith, ltb-true (row n i (x .to) .count) 4 r)))
+sending-ok n a i none z k ok m h r = ok
+sending-ok n a i (some x) z k ok m h r =
+    let s = withArrival (flightShelf n) a in
+    let y = arrival-sized (flightShelf n) a (z .flight) in
+    let b = blockOf 4 (pair i (x .to)) s in
+    let few = arrival-few (flightShelf n) (z .flight) a k i (x .to) in
+    let room : length (rowIn s i (x .to)) < 4 = omega (arith, ltb-true (length (row n i (x .to))) 4 r) in
+    let e = signals-joined b (four s y i (x .to) m (h .0)) (x .signal) room in
+    changed-ok (joined (cellOf (x .signal))) (joined-keeps (cellOf (x .signal))) s y i (x .to) ok m (h .0) (rw e (joined-ok i (x .to) (signals b) (x .signal) (ok i (x .to) m (h .0)) (h .1) room))
 
 -- ---- processes
 
+abbrev pub mailIn : Shelf Slot → ℕ → List Message
+mailIn s i = messages (blockOf 16 (i - 1) s)
+
+pub indices-apart : (i m : ℕ) → So (isNumber i) → So (isNumber m) → i ≢ m → i - 1 ≢ m - 1
+indices-apart i m a b h e =
+    let x = number-bounds i a in
+    let y = number-bounds m b in
+    h (omega arith)
+
+module _ (s : Shelf Slot) (z : SizedMail s) (m : ℕ) (number : So (isNumber m)) where
+  own-room : Room 16 (m - 1) s
+  own-room = let x = number-bounds m number in mail-room s z (m - 1) (omega arith)
+
+  -- the owner's mailbox behind its change, and every other
+  pub mail-here : (c : MailChange) → MailOk c (mailIn s m) → mailIn (withMail s (m - 1) c) m ≡ mailBehind c (mailIn s m)
+  mail-here unchanged h = refl
+  mail-here (joining x) h =
+      ap messages (blockOf-here 16 (joined (slotOf x)) (joined-keeps (slotOf x)) (m - 1) s own-room) ∙ messages-joined (blockOf 16 (m - 1) s) (whole 16 (m - 1) s own-room) x h
+  mail-here (leaving k) h =
+      ap messages (blockOf-here 16 (left k) (left-keeps k) (m - 1) s own-room) ∙ messages-left (blockOf 16 (m - 1) s) (whole 16 (m - 1) s own-room) k (h .0) (h .1)
+
+  pub emptied-here : mailIn (changed 16 emptied (m - 1) s) m ≡ []
+  emptied-here = ap messages (blockOf-here 16 emptied emptied-keeps (m - 1) s own-room) ∙ messages-emptied (blockOf 16 (m - 1) s)
+
+pub mail-else : (s : Shelf Slot) (m k : ℕ) (c : MailChange) → k ≢ m → blockOf 16 k (withMail s m c) ≡ blockOf 16 k s
+mail-else s m k unchanged h = refl
+mail-else s m k (joining x) h = blockOf-else 16 (joined (slotOf x)) (joined-keeps (slotOf x)) m s k h
+mail-else s m k (leaving i) h = blockOf-else 16 (left i) (left-keeps i) m s k h
+
 module _ (codes : List (List Instruction)) where
-  abbrev StandOk : ℕ → Process → Mailbox → Type 0
+  abbrev StandOk : ℕ → Process → List Message → Type 0
   StandOk i p m = So (standingSound codes i (standing p m))
 
-  abbrev StandsOk : List Process → List Mailbox → Type 0
-  StandsOk ps ms = (i : ℕ) → So (isNumber i) → StandOk i (getD ps (i - 1) noProcess) (getD ms (i - 1) noMailbox)
+  abbrev StandsOk : List Process → Shelf Slot → Type 0
+  StandsOk ps s = (i : ℕ) → So (isNumber i) → StandOk i (getD ps (i - 1) noProcess) (mailIn s i)
 
-  -- a process and its mailbox stored, read back
-  stored : (i : ℕ) (ps : List Process) (ms : List Mailbox) (k l : ℕ) (p : Process) (m : Mailbox) → StandOk i p m → StandOk i (getD (set ps k p) k noProcess) (getD (set ms l m) l noMailbox)
-  unfolding standing emptied
-  stored i ps ms k l p m h =
-      set-read (λ q. StandOk i q (getD (set ms l m) l noMailbox)) noProcess ps k p refl
-      (set-read (λ b. StandOk i p b) noMailbox ms l m (emptied-sound codes i p m noMailbox h) h)
-
-  index : (i m : ℕ) → So (isNumber i) → So (isNumber m) → i ≢ m → i - 1 ≢ m - 1
-  index i m a b h e =
-      let x = number-bounds i a in
-      let y = number-bounds m b in
-      h (omega arith)
-
-  owner-ok : (ps : List Process) (ms : List Mailbox) (m : ℕ) (p : Process) (b : Mailbox) → StandsOk ps ms → So (isNumber m) → StandOk m p b → StandsOk (set ps (m - 1) p) (set ms (m - 1) b)
-  owner-ok ps ms m p b ok n h i k = go (ℕ-discrete i m)
+  owner-ok : (ps : List Process) (s : Shelf Slot) (m : ℕ) (p : Process) (c : MailChange) → length ps ≡ 16 → SizedMail s → StandsOk ps s → So (isNumber m) → MailOk c (mailIn s m)
+      → StandOk m p (mailBehind c (mailIn s m)) →
+      StandsOk (set ps (m - 1) p) (withMail s (m - 1) c)
+  owner-ok ps s m p c l z ok n g h i k = go (ℕ-discrete i m)
     where
-      go : Dec (i ≡ m) → StandOk i (getD (set ps (m - 1) p) (i - 1) noProcess) (getD (set ms (m - 1) b) (i - 1) noMailbox)
-      go (yes e) = rw e (stored m ps ms (m - 1) (m - 1) p b h)
+      go : Dec (i ≡ m) → StandOk i (getD (set ps (m - 1) p) (i - 1) noProcess) (mailIn (withMail s (m - 1) c) i)
+      go (yes e) = let x = number-bounds m n in rw (e, getD-set-same ps (m - 1) p noProcess (omega arith), mail-here s z m n c g) h
       go (no q) =
-          let d = index i m k n q in
-          rw (getD-set-other ps (m - 1) (i - 1) p noProcess d, getD-set-other ms (m - 1) (i - 1) b noMailbox d) (ok i k)
+          let d = indices-apart i m k n q in
+          rw (getD-set-other ps (m - 1) (i - 1) p noProcess d, mail-else s (m - 1) (i - 1) c d) (ok i k)
 
-  birth-ok : (ps : List Process) (ms : List Mailbox) (b : Option Birth) → StandsOk ps ms → BornOk codes b → StandsOk (withBirth noProcess (λ b p. b .process) ps b) (withBirth noMailbox (λ b m. emptied m) ms b)
-  unfolding at
-  birth-ok ps ms none ok h = ok
-  birth-ok ps ms (some b) ok h = owner-ok ps ms (b .number) (b .process) (emptied (getD ms (b .number - 1) noMailbox)) ok (h .number) (h .sound (getD ms (b .number - 1) noMailbox))
+  birth-ok : (ps : List Process) (s : Shelf Slot) (b : Option Birth) → length ps ≡ 16 → SizedMail s → StandsOk ps s → BornOk codes b → StandsOk (withBirth ps b) (withoutMail s b)
+  birth-ok ps s none l z ok h = ok
+  birth-ok ps s (some b) l z ok h = λ i k. go i k (ℕ-discrete i (b .number))
+    where
+      go : (i : ℕ) → So (isNumber i) → Dec (i ≡ b .number) → StandOk i (getD (set ps (b .number - 1) (b .process)) (i - 1) noProcess) (mailIn (changed 16 emptied (b .number - 1) s) i)
+      go i k (yes e) = let x = number-bounds (b .number) (h .number) in rw (e, getD-set-same ps (b .number - 1) (b .process) noProcess (omega arith), emptied-here s z (b .number) (h .number))
+          (h .sound)
+      go i k (no q) =
+          let d = indices-apart i (b .number) k (h .number) q in
+          rw (getD-set-other ps (b .number - 1) (i - 1) (b .process) noProcess d, blockOf-else 16 emptied emptied-keeps (b .number - 1) s (i - 1) d) (ok i k)
 
 -- ---- the node
 
-kept-of : {codes : List (List Instruction)} {i : ℕ} {e : Effect} (x : Answer Effect) → Good codes i x → x ≡ done e → Keeps codes i e
+kept-of : {codes : List (List Instruction)} {i : ℕ} {m : List Message} {e : Effect} (x : Answer Effect) → Good codes i m x → x ≡ done e → Keeps codes i m e
 kept-of x g q = rw q at g
 
 -- the signal that arrives is one of a sound row, or what is read where there is none
 incoming-sound : (n : Node) (j i : ℕ) → RowOk j i (row n j i) → So (signalSound j i (incoming n j i))
 unfolding incoming fitsInt
-incoming-sound n j i h = allOf-any (signalSound j i) (noSignal .signal) (signals (row n j i)) refl (row-signals j i (row n j i) h) _
+incoming-sound n j i h = allOf-any (signalSound j i) (noSignal .signal) (row n j i) refl (row-parts j i (row n j i) h .1) _
 
 -- what the owner of a step decides on keeps what an effect must keep
-pub decided-keeps : (n : Node) (a : Action) (e : Effect) → Parts n → So (numbered a) → So (signalWaits n a) → decide n a ≡ done e → Keeps (behavioursOf n) (owner a) e
+pub decided-keeps : (n : Node) (a : Action) (e : Effect) → Parts n → So (numbered a) → So (signalWaits n a) → decide n a ≡ done e → Keeps (behavioursOf n) (owner a) (mailbox n (owner a)) e
 unfolding decide numbered
 decided-keeps n (run i) e p m w d =
     kept-of (runs (code n (process n i .behaviour .0)) i (state n i))
@@ -257,32 +291,24 @@ decided-keeps n (arrive i j) e p m w d =
     (arrives-good i j (state n i) (behavioursOf n) (b .0) (p .processes i (b .0)) (b .1) (incoming n j i) (incoming-sound n j i (p .rows j i (b .1) (b .0))))
     d
 
-pub act-keeps : (n : Node) (a : Action) (e : Effect) → Parts n → Act n a e → Keeps (behavioursOf n) (owner a) e
+pub act-keeps : (n : Node) (a : Action) (e : Effect) → Parts n → Act n a e → Keeps (behavioursOf n) (owner a) (mailbox n (owner a)) e
 act-keeps n a e p t = decided-keeps n a e p (t .numbers) (t .waits) (t .decided)
-
--- and its mailbox has the slots of the owner's
-act-full : (n : Node) (a : Action) (e : Effect) → Sized n → Act n a e → So (sixteenSlots (e .mail))
-unfolding decide
-act-full n a e z t = go a (t .decided) (number-bounds (owner a) (owner-number a (t .numbers)))
-  where
-    own : (i : ℕ) → (1 ≤ i) × (i ≤ 16) → So (sixteenSlots (mailbox n i))
-    own i h = allOf-at sixteenSlots noMailbox (n .mail) (z .slots) (i - 1) (omega (arith, z .mail, h .0, h .1))
-
-    go : (b : Action) → decide n b ≡ done e → (1 ≤ owner b) × (owner b ≤ 16) → So (sixteenSlots (e .mail))
-    go (run i) d h = subst Fills d (runs-full _ i (state n i) (own i h))
-    go (arrive i j) d h = subst Fills d (arrives-full i j (state n i) _ (own i h))
 
 pub commit-sound : (n : Node) (a : Action) (e : Effect) → Parts n → Act n a e → Parts (commit n a e)
 unfolding commit behavioursOf code
 commit-sound n a e p t =
     let k = act-keeps n a e p t in
+    let z = p .sized in
     let m = owner-number a (t .numbers) in
+    let stands = owner-ok (behavioursOf n) (n .processes) (mailShelf n) (owner a) (e .process) (e .mail) (z .processes) (z .mail) (p .processes) m (k .mail) (k .sound) in
+    let arrived = arrival-ok n a z (p .rows) (t .numbers) (t .waits) in
     record {
       few = p .few;
       codes = p .codes;
-      processes = birth-ok (behavioursOf n) _ _ (e .born) (owner-ok (behavioursOf n) (n .processes) (n .mail) (owner a) (e .process) (e .mail) (p .processes) m (k .sound)) (k .birth);
-      rows = sending-ok n a (owner a) (e .sent) (arrival-ok (n .flight) a (p .rows) (t .numbers)) m (k .sent) (t .room);
-      sized = sized-kept n a e (act-full n a e (p .sized) t) (p .sized);
+      processes = birth-ok (behavioursOf n) _ _ (e .born) (length-set (n .processes) (owner a - 1) (e .process) ∙ z .processes) (mail-sized (mailShelf n) (owner a - 1) (e .mail) (z .mail)) stands
+          (k .birth);
+      rows = sending-ok n a (owner a) (e .sent) z (t .numbers) arrived m (k .sent) (t .room);
+      sized = sized-kept n a e z;
     }
 
 -- an accepted step leaves a sound node

@@ -1,5 +1,4 @@
 pub mod All
-pub mod Firsts
 pub mod Records
 pub mod Living
 pub mod Keeps

@@ -1,33 +1,28 @@
 -- A live process taken apart into what a change of it touches, its place, its registers, its links and its mailbox (`Alive`), and what each
 -- change keeps of them. Assumes nothing.
 use mathlib.Core.Bool.{Bool, true, false, not, So, cond, _&&_}
-use mathlib.Core.List.{List, []}
+use mathlib.Core.List.{List, [], _∷_, _++_}
 use mathlib.Core.Path.{_≡_, refl, sym, ap, subst}
 use Prim.Native.Nat.{ℕ, suc, _+_, _-_, _≤_, _<_, min}
 use native.Mathlib.Omega.{arith}
 use borrow.Author.Tests.{leb-true, le-leb, eqb-false, not-true}
 use lib.Dec.{leb, eqb}
-use lib.ListN.{length, getD}
-use Rattle.node.specs.declared.Mailbox.{Mailbox}
+use lib.ListN.{length, getD, length-append}
 use Rattle.node.specs.declared.Message.{Message}
 use Rattle.node.specs.declared.Peers.{Peers}
 use Rattle.node.specs.declared.Process.{Process}
-use Rattle.node.specs.declared.Slot.{Slot}
 use Rattle.node.specs.declared.Stage.{Stage}
 use Rattle.node.specs.declared.Stage.the-variants.{Unborn, Live, Closing, Gone}
 use Rattle.node.specs.declared.Value.{Value}
-use Rattle.node.specs.Lists.{firsts, allOf}
-use Rattle.node.specs.Mailboxes.{noMessage, messages, joined, without, emptied}
+use Rattle.node.specs.Lists.{without, allOf}
 use Rattle.node.specs.Processes.{register, withRegister, withRegisters, moved, trapped, linked, unlinked}
 use Rattle.node.specs.Sets.{noPeers, has, withPeer, withoutPeer}
 use Rattle.node.proofs.Sets.{has-none, has-with-other, has-without-false}
-use Rattle.node.proofs.Contents.{messages-length}
 use Rattle.rules.specs.Behaviours.{Instruction, onClause}
 use Rattle.rules.specs.Nodes.{standingIn, standing, setOf, runningSound, standingSound}
 use Rattle.rules.specs.Steps.{isUnborn}
-use Rattle.node.specs.Values.{isNumber, fitsInt, valueSound, messageSound}
-use Rattle.rules.proofs.All.{both, parts, allOf-map}
-use Rattle.rules.proofs.Firsts.{firsts-joined, firsts-left}
+use Rattle.node.specs.Values.{isNumber, valueSound, messageSound}
+use Rattle.rules.proofs.All.{both, parts, allOf-join, allOf-without, without-length}
 use Rattle.rules.proofs.Records.{number-bounds}
 
 -- ---- a live process
@@ -54,18 +49,18 @@ Apart i s = So (not (setOf s i))
 abbrev pub Unlinked : ℕ → Process → Type 0
 Unlinked i p = Apart i (p .links)
 
-pub record Mailed (m : Mailbox) : Type 0 where
-  pub few : So (leb (length (messages m)) 16)
-  pub sound : So (allOf messageSound (messages m))
+pub record Mailed (m : List Message) : Type 0 where
+  pub few : So (leb (length m) 16)
+  pub sound : So (allOf messageSound m)
 
-pub record Alive (codes : List (List Instruction)) (i : ℕ) (p : Process) (m : Mailbox) : Type 0 where
+pub record Alive (codes : List (List Instruction)) (i : ℕ) (p : Process) (m : List Message) : Type 0 where
   pub stage : p .stage ≡ Live
   pub placed : Placed codes (p .behaviour .0) (p .place)
   pub valued : Valued (p .r0) (p .r1) (p .r2) (p .r3)
   pub apart : Unlinked i p
   pub mailed : Mailed m
 
-module _ (codes : List (List Instruction)) (i : ℕ) (p : Process) (m : Mailbox) where
+module _ (codes : List (List Instruction)) (i : ℕ) (p : Process) (m : List Message) where
   pub alive : p .stage ≡ Live → So (standingSound codes i (standing p m)) → Alive codes i p m
   unfolding standing runningSound
   alive e h =
@@ -96,40 +91,22 @@ module _ (codes : List (List Instruction)) (i : ℕ) (p : Process) (m : Mailbox)
       both (both (both (both (both (both (x .known) (x .within)) (x .off)) (both (v .v0) (both (v .v1) (both (v .v2) (both (v .v3) refl))))) (a .mailed .few)) (a .mailed .sound)) (a .apart) in
       subst (λ (s : Stage). So (standingSound codes i (standingIn s p m))) (sym (a .stage)) t
 
-messageOk : Slot → Bool
-messageOk s = messageSound (s .message)
-
-messages-sound : (m : Mailbox) → allOf messageSound (messages m) ≡ allOf messageOk (firsts noMessage (m .count) (m .slots))
-unfolding messages messageOk
-messages-sound m = allOf-map messageSound (λ (s : Slot). s .message) (firsts noMessage (m .count) (m .slots))
-
-module _ (m : Mailbox) (a : Mailed m) where
-  held-sound : So (allOf messageOk (firsts noMessage (m .count) (m .slots)))
-  held-sound = rw messages-sound at (a .sound)
-
-  count-16 : m .count ≤ 16
-  count-16 = rw messages-length at (leb-true (length (messages m)) 16 (a .few))
-
+module _ (m : List Message) (a : Mailed m) where
   -- a message joins where there is room
-  pub joined-mailed : (x : Message) → So (messageSound x) → m .count < 16 → Mailed (joined m x)
-  unfolding joined messageOk fitsInt
-  joined-mailed x h g =
-      let e : min (m .count + 1) 255 ≡ suc (m .count) = omega arith in
-      record {
-        few = rw messages-length (le-leb (min (m .count + 1) 255) 16 (omega arith));
-        sound = rw (messages-sound, e) (firsts-joined messageOk noMessage refl (record { message = x }) h (m .count) (m .slots) held-sound);
-      }
-
-  pub without-mailed : (k : ℕ) → Mailed (without m k)
-  unfolding without messageOk fitsInt
-  without-mailed k = record {
-    few = rw messages-length (le-leb (m .count - 1) 16 (omega (arith, count-16)));
-    sound = rw messages-sound (firsts-left messageOk noMessage refl k (m .count) (m .slots) held-sound);
+  pub joined-mailed : (x : Message) → So (messageSound x) → length m < 16 → Mailed (m ++ (x ∷ []))
+  joined-mailed x h g = record {
+    few = rw (length-append m (x ∷ [])) (le-leb (length m + 1) 16 (omega arith));
+    sound = allOf-join messageSound m (x ∷ []) (a .sound) (both h refl);
   }
 
-pub emptied-mailed : (m : Mailbox) → Mailed (emptied m)
-unfolding emptied messages
-emptied-mailed m = record { few = refl; sound = refl }
+  pub without-mailed : (k : ℕ) → Mailed (without k m)
+  without-mailed k = record {
+    few = le-leb (length (without k m)) 16 (omega (arith, without-length k m, leb-true (length m) 16 (a .few)));
+    sound = allOf-without messageSound k m (a .sound);
+  }
+
+pub empty-mailed : Mailed []
+empty-mailed = record { few = refl; sound = refl }
 
 -- ---- registers
 
@@ -151,7 +128,8 @@ module _ (p : Process) (v : Valued (p .r0) (p .r1) (p .r2) (p .r3)) (Q : Process
   withRegister-keeps r x g = go (eqb r 0) (eqb r 1) (eqb r 2)
     where
       go : (a b c : Bool) →
-          Q (cond a (withRegisters p x (p .r1) (p .r2) (p .r3)) (cond b (withRegisters p (p .r0) x (p .r2) (p .r3)) (cond c (withRegisters p (p .r0) (p .r1) x (p .r3)) (withRegisters p (p .r0) (p .r1) (p .r2) x))))
+          Q (cond a (withRegisters p x (p .r1) (p .r2) (p .r3)) (cond b (withRegisters p (p .r0) x (p .r2) (p .r3)) (cond c (withRegisters p (p .r0) (p .r1) x (p .r3))
+          (withRegisters p (p .r0) (p .r1) (p .r2) x))))
       go true b c = h x (p .r1) (p .r2) (p .r3) (record { v0 = g; v1 = v .v1; v2 = v .v2; v3 = v .v3 })
       go false true c = h (p .r0) x (p .r2) (p .r3) (record { v0 = v .v0; v1 = g; v2 = v .v2; v3 = v .v3 })
       go false false true = h (p .r0) (p .r1) x (p .r3) (record { v0 = v .v0; v1 = v .v1; v2 = g; v3 = v .v3 })
@@ -186,7 +164,7 @@ none-apart i = go (isNumber i)
 
 -- ---- changes of a live process
 
-module _ (codes : List (List Instruction)) (i : ℕ) (p : Process) (m : Mailbox) (a : Alive codes i p m) where
+module _ (codes : List (List Instruction)) (i : ℕ) (p : Process) (m : List Message) (a : Alive codes i p m) where
   pub live-born : isUnborn (p .stage) ≡ false
   live-born = ap isUnborn (a .stage)
 
@@ -209,27 +187,27 @@ module _ (codes : List (List Instruction)) (i : ℕ) (p : Process) (m : Mailbox)
   unfolding unlinked
   unlinked-alive j = record { stage = a .stage; placed = a .placed; valued = a .valued; apart = without-apart i (p .links) (a .apart) j; mailed = a .mailed }
 
-  pub mailed-alive : (b : Mailbox) → Mailed b → Alive codes i p b
+  pub mailed-alive : (b : List Message) → Mailed b → Alive codes i p b
   mailed-alive b h = record { stage = a .stage; placed = a .placed; valued = a .valued; apart = a .apart; mailed = h }
 
 -- ---- a mailbox emptied
 
--- what is sound with some mailbox is sound with an emptied one
-pub emptied-sound : (codes : List (List Instruction)) (i : ℕ) (p : Process) (m b : Mailbox) → So (standingSound codes i (standing p m)) → So (standingSound codes i (standing p (emptied b)))
+-- what is sound with some mailbox is sound with an empty one
+pub emptied-sound : (codes : List (List Instruction)) (i : ℕ) (p : Process) (m : List Message) → So (standingSound codes i (standing p m)) → So (standingSound codes i (standing p []))
 unfolding standing
-emptied-sound codes i p m b h = go (p .stage) refl h
+emptied-sound codes i p m h = go (p .stage) refl h
   where
-    go : (s : Stage) → p .stage ≡ s → So (standingSound codes i (standingIn s p m)) → So (standingSound codes i (standingIn s p (emptied b)))
+    go : (s : Stage) → p .stage ≡ s → So (standingSound codes i (standingIn s p m)) → So (standingSound codes i (standingIn s p []))
     go Unborn e g = refl
     go Live e g =
-        let a = mailed-alive codes i p m (alive codes i p m e h) (emptied b) (emptied-mailed b) in
-        subst (λ (s : Stage). So (standingSound codes i (standingIn s p (emptied b)))) e (alive-sound codes i p (emptied b) a)
+        let a = mailed-alive codes i p m (alive codes i p m e h) [] empty-mailed in
+        subst (λ (s : Stage). So (standingSound codes i (standingIn s p []))) e (alive-sound codes i p [] a)
     go Closing e g = g
     go Gone e g = refl
 
 -- ---- where a live process stands
 
 -- its behaviour is one that the node has
-pub live-within : (codes : List (List Instruction)) (i : ℕ) (p : Process) (m : Mailbox) → p .stage ≡ Live → So (standingSound codes i (standing p m)) →
+pub live-within : (codes : List (List Instruction)) (i : ℕ) (p : Process) (m : List Message) → p .stage ≡ Live → So (standingSound codes i (standing p m)) →
     So (leb 1 (p .behaviour .0) && leb (p .behaviour .0) (length codes))
 live-within codes i p m e h = alive codes i p m e h .placed .known

@@ -1,7 +1,7 @@
 -- The ops: what is shown of each is one record (`Shown`) with a row to an op (`rows`), so that one thing more to show is one field more.
 --   Running     a live process of a sound node is at op o of its code
---   Shown k x   of answer x, which the op with number k gives: it is refused with 25 only, and only at a recv; the mailbox keeps its slots;
---               what an effect must keep is kept
+--   Shown k x   of answer x, which the op with number k gives: it is refused with 25 only, and only at a recv; what an effect must keep
+--               is kept
 --   op-shown    every op is shown so
 -- Assumes nothing.
 use mathlib.Core.Bool.{Bool, true, false, not, So, cond, _&&_, _||_}
@@ -15,7 +15,6 @@ use borrow.Author.Tests.{leb-true, le-leb, eqb-true, eqb-false, ne-eqb, not-true
 use lib.Dec.{leb, eqb}
 use lib.ListN.{length, getD, take, drop, length-map, length-take, length-drop}
 use lib.Seq.{getD-take, getD-drop}
-use Rattle.node.specs.declared.Mailbox.{Mailbox}
 use Rattle.node.specs.declared.Message.{Message}
 use Rattle.node.specs.declared.Message.the-variants.{Plain, Note}
 use Rattle.node.specs.declared.Op.{Op}
@@ -25,13 +24,11 @@ use Rattle.node.specs.declared.Signal.{Signal}
 use Rattle.node.specs.declared.Signal.the-variants.{Msg, Exit, Link, Unlink}
 use Rattle.node.specs.declared.Value.{Value}
 use Rattle.node.specs.declared.Value.the-variants.{Int, Pid}
-use Rattle.node.specs.Lists.{allOf}
-use Rattle.node.specs.Mailboxes.{noMessage, messages, without, sixteenSlots}
+use Rattle.node.specs.Lists.{without, allOf}
 use Rattle.node.specs.Nodes.{noOp}
 use Rattle.node.specs.Ops.{kindsOf, opCount, recvOp, clauseOp}
 use Rattle.node.specs.Processes.{register, withRegister, withRegisters, moved, advanced, trapped, linked, unlinked, ended}
 use Rattle.node.specs.Values.{badarg, badarith, pid, isNumber, valueSound, messageSound, sameValue}
-use Rattle.node.proofs.Lists.{leave-length}
 use Rattle.rules.specs.Answers.{Answer, noFit}
 use Rattle.rules.specs.Behaviours.{Instruction, instruction, numeric, operand, operandInRange, onClause, isRecv, isClause, clauseCount, noInstruction, hasClauses, codeSound}
 use Rattle.rules.specs.Effects.{State, Effect, becomes, ends}
@@ -40,8 +37,9 @@ use Rattle.rules.specs.Receive.{Fit, fits, firstClause, search, withMess
 use Rattle.rules.specs.Run.{setsRegister, jumpsIf, sendsTo, toOther, spawns, stops, opTable, runsOp}
 use Rattle.rules.proofs.All.{parts, allOf-at, Each, last, _then_, each-at}
 use Rattle.rules.proofs.Cases.{jumps-any, adds-any, compares-any, sendsTo-any, toOther-any, receives-any}
-use Rattle.rules.proofs.Keeps.{Fills, Good, becomes-alive, sends-alive, ends-good}
-use Rattle.rules.proofs.Living.{codeOf, Valued, Mailed, Alive, alive, alive-sound, live-born, without-mailed, register-sound, withRegister-keeps, moved-alive, registers-alive, trapped-alive, linked-alive, unlinked-alive, mailed-alive}
+use Rattle.rules.proofs.Keeps.{Good, becomes-alive, sends-alive, ends-good}
+use Rattle.rules.proofs.Living.{codeOf, Valued, Mailed, Alive, alive, alive-sound, live-born, without-mailed, register-sound, withRegister-keeps, moved-alive, registers-alive}
+use Rattle.rules.proofs.Living.{trapped-alive, linked-alive, unlinked-alive, mailed-alive}
 use Rattle.rules.proofs.Places.{code-short, next-off, op-at, facts, in-range, target-at, fresh-sound}
 use Rattle.rules.proofs.Told.{Told}
 
@@ -65,6 +63,23 @@ module _ (Q : Op → Type 0) where
   search-fit : (cs : List Op) → ((j : ℕ) → j < length cs → Q (getD cs j noOp)) → (i : ℕ) (ms : List Message) → So (allOf messageSound ms) → FitOk (search cs i ms)
   search-fit cs h i [] g = tt
   search-fit cs h i (m ∷ ms) g = let u = parts (messageSound m) (allOf messageSound ms) g in firstClause-fit cs h i m (u .0) (search cs (i + 1) ms) (search-fit cs h (i + 1) ms (u .1))
+
+-- the index of a fit is below n
+abbrev Before : ℕ → Option Fit → Type 0
+Before n none = Unit {0}
+Before n (some f) = f .index < n
+
+firstClause-before : (cs : List Op) (i n : ℕ) (m : Message) (later : Option Fit) → i < n → Before n later → Before n (firstClause cs i m later)
+firstClause-before [] i n m later h l = l
+firstClause-before (c ∷ cs) i n m later h l = go (fits c m) (firstClause-before cs i n m later h l)
+  where
+    go : (b : Bool) → Before n (firstClause cs i m later) → Before n (cond b (some (record { index = i; message = m; clause = c })) (firstClause cs i m later))
+    go true r = h
+    go false r = r
+
+search-before : (cs : List Op) (i : ℕ) (ms : List Message) (n : ℕ) → i + length ms ≤ n → Before n (search cs i ms)
+search-before cs i [] n h = tt
+search-before cs i (m ∷ ms) n h = firstClause-before cs i n m (search cs (i + 1) ms) (omega arith) (search-before cs (i + 1) ms n (omega arith))
 
 -- ---- a process at an op
 
@@ -171,7 +186,7 @@ module _ (codes : List (List Instruction)) (i : ℕ) (ops : List Op) (st : State
       let x : So (isClause (instruction (getD ops k noOp))) = rw d at (allOf-at isClause noInstruction (take n (drop (t + 1) whole)) (clauses-follow e) j l) in
       rw f (target-at (length codes) ops checked k c (getD ops k noOp) refl clauseOp 3 (eqb-true (getD ops k noOp .number) clauseOp x) (omega arith) refl)
 
-  module _ (m : Mailbox) (mail : Mailed m) (k : ℕ) (within : So (leb k (length whole))) (off : So (not (onClause whole k))) where
+  module _ (m : List Message) (mail : Mailed m) (k : ℕ) (within : So (leb k (length whole))) (off : So (not (onClause whole k))) where
     moved-with : (b c d e : Value) → Valued b c d e → Alive codes i (moved (withRegisters p b c d e) k) m
     moved-with b c d e w =
         let q = withRegisters p b c d e in
@@ -185,16 +200,24 @@ module _ (codes : List (List Instruction)) (i : ℕ) (ops : List Op) (st : State
         (λ b d e f u. withRegister-keeps (withRegisters p b d e f) u (λ q. Alive codes i (moved q k) m) moved-with (c .s) v (w .1))
         (c .r) (Pid j) (w .0)
 
-  fit-good : o .number ≡ recvOp → (f : Fit) → search (take (o .small) (drop (t + 1) ops)) 0 (messages (st .mail)) ≡ some f → Good codes i (receivesFit st (some f))
+  fit-good : o .number ≡ recvOp → (f : Fit) → search (take (o .small) (drop (t + 1) ops)) 0 (st .mail) ≡ some f → Good codes i (st .mail) (receivesFit st (some f))
   fit-good e f q =
-      let h : FitOk OnTarget (some f) = subst (FitOk OnTarget) q (search-fit OnTarget (take (o .small) (drop (t + 1) ops)) (clause-target e) 0 (messages (st .mail)) (g .alive .mailed .sound)) in
-      let m = without (st .mail) (f .index) in
+      let h : FitOk OnTarget (some f) = subst (FitOk OnTarget) q (search-fit OnTarget (take (o .small) (drop (t + 1) ops)) (clause-target e) 0 (st .mail) (g .alive .mailed .sound)) in
+      let m = without (f .index) (st .mail) in
       let next = withMessage-alive m (without-mailed (st .mail) (g .alive .mailed) (f .index)) (f .clause .target) (h .0 .0) (h .0 .1) (f .clause) (f .message) (h .1) in
-      record { sound = alive-sound codes i _ m next; born = live-born codes i _ m next; sent = tt; birth = tt; apart = tt }
+      let inside = subst (Before (length (st .mail))) q (search-before (take (o .small) (drop (t + 1) ops)) 0 (st .mail) (length (st .mail)) (omega arith)) in
+      record {
+        sound = alive-sound codes i _ m next;
+        mail = (inside, leb-true (length (st .mail)) 16 (g .alive .mailed .few));
+        born = live-born codes i _ m next;
+        sent = tt;
+        birth = tt;
+        apart = tt;
+      }
 
   -- ---- spawn
 
-  spawn-good : o .number ≡ 9 → Good codes i (spawns i st o)
+  spawn-good : o .number ≡ 9 → Good codes i (st .mail) (spawns i st o)
   unfolding kindsOf operand operandInRange
   spawn-good e =
       let n : So (isNumber (o .process .0)) = operand-good 9 2 e (omega arith) in
@@ -202,9 +225,10 @@ module _ (codes : List (List Instruction)) (i : ℕ) (ops : List Op) (st : State
       let next = set-alive (other-op 9 e refl) (o .r) (Pid (o .process)) n in
       record {
         sound = alive-sound codes i _ (st .mail) next;
+        mail = tt;
         born = live-born codes i _ (st .mail) next;
         sent = tt;
-        birth = record { number = n; sound = λ m. fresh-sound codes (g .sounds) (o .process .0) (o .behaviour) (pid i) m known (g .number); born = refl };
+        birth = record { number = n; sound = fresh-sound codes (g .sounds) (o .process .0) (o .behaviour) (pid i) known (g .number); born = refl };
         apart = tt;
       }
 
@@ -217,8 +241,7 @@ At k m = (m ≡ noFit) × (k ≡ recvOp)
 module _ (code : List Op) (i : ℕ) (st : State) (o : Op) where
   pub record Shown (k : ℕ) (x : Answer Effect) : Type 0 where
     pub told : Told (At k) x
-    pub full : So (sixteenSlots (st .mail)) → Fills x
-    pub good : (codes : List (List Instruction)) → Running codes i code st o → o .number ≡ k → Good codes i x
+    pub good : (codes : List (List Instruction)) → Running codes i code st o → o .number ≡ k → Good codes i (st .mail) x
 
   -- a fact that holds where a sound process is at the op with number k
   abbrev If : ℕ → (List (List Instruction) → Type 0) → Type 0
@@ -226,13 +249,12 @@ module _ (code : List Op) (i : ℕ) (st : State) (o : Op) where
 
   ends-shown : (k : ℕ) (v : Value) → If k (λ c. So (valueSound v)) → Shown k (ends st v)
   unfolding ended
-  ends-shown k v h = record { told = tt; full = λ s. s; good = λ codes g e. ends-good codes i st v (h codes g e) (g .alive .apart) }
+  ends-shown k v h = record { told = tt; good = λ codes g e. ends-good codes i st v (h codes g e) (g .alive .apart) }
 
   stays-shown : (k : ℕ) → eqb k recvOp ≡ false → Shown k (becomes st (advanced (st .process)))
   unfolding advanced
   stays-shown k h = record {
     told = tt;
-    full = λ s. s;
     good = λ codes g e. becomes-alive codes i st _ (advanced-alive codes i code st o g (other-op codes i code st o g k e h) (st .process) (g .alive) refl refl);
   }
 
@@ -240,7 +262,6 @@ module _ (code : List Op) (i : ℕ) (st : State) (o : Op) where
   unfolding advanced
   sets-shown k h r v f = record {
     told = tt;
-    full = λ s. s;
     good = λ codes g e. becomes-alive codes i st _ (set-alive codes i code st o g (other-op codes i code st o g k e h) r v (f codes g e));
   }
 
@@ -248,7 +269,6 @@ module _ (code : List Op) (i : ℕ) (st : State) (o : Op) where
   unfolding advanced trapped
   traps-shown f = record {
     told = tt;
-    full = λ s. s;
     good = λ codes g e.
         let trapping = trapped-alive codes i (st .process) (st .mail) (g .alive) f in
         becomes-alive codes i st _ (advanced-alive codes i code st o g (other-op codes i code st o g 8 e refl) (trapped (st .process) f) trapping refl refl);
@@ -262,7 +282,6 @@ module _ (code : List Op) (i : ℕ) (st : State) (o : Op) where
   unfolding moved
   moves-shown k h = record {
     told = tt;
-    full = λ s. s;
     good = λ codes g e. let w = h codes g e in becomes-alive codes i st _ (moved-good codes i code st o g (o .target) (w .0) (w .1));
   }
 
@@ -293,7 +312,6 @@ module _ (code : List Op) (i : ℕ) (st : State) (o : Op) where
       sendsTo-any st (Shown k) r q x
       (λ j n. record {
         told = tt;
-        full = λ s. s;
         good = λ codes g e.
             let w = f j n codes g e in
             let next = advanced-alive codes i code st o g (other-op codes i code st o g k e h) (q j) (w .1 .0) (w .1 .1) (w .1 .2) in
@@ -325,16 +343,14 @@ module _ (code : List Op) (i : ℕ) (st : State) (o : Op) where
   unfolding advanced
   spawns-shown = record {
     told = tt;
-    full = λ s. s;
     good = λ codes g e. spawn-good codes i code st o g e;
   }
 
   receives-shown : Shown recvOp (receives code st o)
-  unfolding moved without
+  unfolding moved
   receives-shown = record {
     told = receives-any st (Told (At recvOp)) code o (refl, refl) (λ f q. tt);
-    full = λ s. receives-any st Fills code o tt (λ f q. rw (leave-length noMessage (f .index) (st .mail .slots)) s);
-    good = λ codes g e. receives-any st (Good codes i) code o tt (fit-good codes i code st o g e);
+    good = λ codes g e. receives-any st (Good codes i (st .mail)) code o tt (fit-good codes i code st o g e);
   }
 
   -- where operand j of the op is a place, it is within the code and on no clause

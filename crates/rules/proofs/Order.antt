@@ -22,11 +22,11 @@ use Rattle.rules.specs.Answers.{Answer, refused, done, notSound, schedul
 use Rattle.rules.specs.Calls.{Call, single, schedule, nodeBehind, ifAccepted, callNode, callSteps, after, accepted, acceptedBy}
 use Rattle.rules.specs.Effects.{Effect, Sending, Birth, State}
 use Rattle.rules.specs.Guarantees.{Order, SoundKept, Stopped, PlayIsSteps, undecided, full, taken, Exclusive, rank, Forward}
-use Rattle.rules.specs.Nodes.{sound, Sound, Equal, view, behavioursOf, code, process}
+use Rattle.rules.specs.Nodes.{sound, Sound, Equal, view, behavioursOf, code, process, mailbox}
 use Rattle.rules.specs.Arrive.{arrivesIn, arrives}
 use Rattle.rules.specs.Run.{closesTo, closes, runsIn, runs}
 use Rattle.node.specs.Values.{numbers}
-use Rattle.rules.specs.Steps.{Action, run, arrive, owner, isUnborn, ownerBorn, pairHasRoom, numberFree, at, withBirth, state, incoming, commit, decide, step, playsOn, played, play}
+use Rattle.rules.specs.Steps.{Action, run, arrive, owner, isUnborn, ownerBorn, pairHasRoom, numberFree, withBirth, state, incoming, commit, decide, step, playsOn, played, play}
 use Rattle.rules.specs.Traces.{Runs}
 use Rattle.rules.proofs.Accepted.{Act, goes-rule, step-rule, step-goes}
 use Rattle.rules.proofs.Commute.{act-kept, free-back, free-on, Off, free-off, off-a, commits-swap}
@@ -90,7 +90,8 @@ unfolding played
 played-runs n [] = refl
 played-runs n (a ∷ l) = go (step n a) refl (λ m. played-runs m l)
   where
-    go : (o : Answer Node) → step n a ≡ o → ((m : Node) → Runs step m (take (played m l .accepted) l) (played m l .node)) → Runs step n (take (playsOn n o (λ m. played m l) .accepted) (a ∷ l)) (playsOn n o (λ m. played m l) .node)
+    go : (o : Answer Node) → step n a ≡ o → ((m : Node) → Runs step m (take (played m l .accepted) l) (played m l .node)) → Runs step n (take (playsOn n o (λ m. played m l) .accepted) (a ∷ l))
+        (playsOn n o (λ m. played m l) .node)
     go (refused k) e f = refl
     go (done m) e f = rw add-one (m, e, f m)
 
@@ -98,7 +99,9 @@ play-runs : (n : Node) (l : List Action) → Runs step n (take (play n l .accept
 unfolding play
 play-runs n l = go (not (sound n)) (ltb 4096 (length l))
   where
-    go : (x y : Bool) → Runs step n (take (cond x (record { accepted = 0; refusal = notSound; node = n }) (cond y (record { accepted = 0; refusal = scheduleTooLong; node = n }) (played n l)) .accepted) l) (cond x (record { accepted = 0; refusal = notSound; node = n }) (cond y (record { accepted = 0; refusal = scheduleTooLong; node = n }) (played n l)) .node)
+    go : (x y : Bool) → Runs step n
+        (take (cond x (record { accepted = 0; refusal = notSound; node = n }) (cond y (record { accepted = 0; refusal = scheduleTooLong; node = n }) (played n l)) .accepted) l)
+        (cond x (record { accepted = 0; refusal = notSound; node = n }) (cond y (record { accepted = 0; refusal = scheduleTooLong; node = n }) (played n l)) .node)
     go true y = refl
     go false true = refl
     go false false = played-runs n l
@@ -135,7 +138,8 @@ unfolding played
 played-stops n [] = refl
 played-stops n (a ∷ l) = go (step n a) refl (λ m. played-stops m l)
   where
-    go : (o : Answer Node) → step n a ≡ o → ((m : Node) → Stopped (played m l .node) (drop (played m l .accepted) l) (played m l .refusal)) → Stopped (playsOn n o (λ m. played m l) .node) (drop (playsOn n o (λ m. played m l) .accepted) (a ∷ l)) (playsOn n o (λ m. played m l) .refusal)
+    go : (o : Answer Node) → step n a ≡ o → ((m : Node) → Stopped (played m l .node) (drop (played m l .accepted) l) (played m l .refusal)) → Stopped (playsOn n o (λ m. played m l) .node)
+        (drop (playsOn n o (λ m. played m l) .accepted) (a ∷ l)) (playsOn n o (λ m. played m l) .refusal)
     go (refused k) e f = e
     go (done m) e f = rw add-one (f m)
 
@@ -215,7 +219,8 @@ closes-rank st e c h = go (lowestPeer (st .process .links)) h
         rw (← d, c) (omega arith)
 
 -- an owner's stage goes forward
-owner-forward : (n : Node) (a : Action) (e : Effect) → Keeps (behavioursOf n) (owner a) e → So (ownerBorn n a) → decide n a ≡ done e → rank (process n (owner a) .stage) ≤ rank (e .process .stage)
+owner-forward : (n : Node) (a : Action) (e : Effect) → Keeps (behavioursOf n) (owner a) (mailbox n (owner a)) e → So (ownerBorn n a) → decide n a ≡ done e → rank (process n (owner a) .stage) ≤ rank
+    (e .process .stage)
 unfolding decide ownerBorn runs arrives processOf
 owner-forward n (run i) e k w h = go (process n i .stage) refl h
   where
@@ -232,8 +237,9 @@ owner-forward n (arrive i j) e k w h = go (process n i .stage) refl h
     go Closing q h = let d : process n i ≡ e .process = ap processOf h in rw (← d, q) (omega arith)
     go Gone q h = let d : process n i ≡ e .process = ap processOf h in rw (← d, q) (omega arith)
 
-birth-forward : (n : Node) (a : Action) (p : Process) (o : Option Birth) → So (numberFree n o) → So (ownerBorn n a) → (i : ℕ) → rank (getD (set (n .processes) (owner a - 1) p) i noProcess .stage) ≤ rank (getD (withBirth noProcess (λ b p. b .process) (set (n .processes) (owner a - 1) p) o) i noProcess .stage)
-unfolding ownerBorn numberFree at Off
+birth-forward : (n : Node) (a : Action) (p : Process) (o : Option Birth) → So (numberFree n o) → So (ownerBorn n a) → (i : ℕ) → rank (getD (set (n .processes) (owner a - 1) p) i noProcess .stage) ≤
+    rank (getD (withBirth (set (n .processes) (owner a - 1) p) o) i noProcess .stage)
+unfolding ownerBorn numberFree Off
 birth-forward n a p none f w i = omega arith
 birth-forward n a p (some b) f w i =
     let off : owner a - 1 ≢ b .number - 1 = free-off n (some b) (owner a - 1) f w in

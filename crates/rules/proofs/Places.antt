@@ -9,21 +9,20 @@ use lib.Dec.{leb, ltb, eqb}
 use lib.ListN.{length, getD, take, drop, length-map, length-drop, List·getD-eq-default}
 use lib.Seq.{take-suc}
 use Rattle.node.specs.declared.BehaviourNumber.{BehaviourNumber}
-use Rattle.node.specs.declared.Mailbox.{Mailbox}
 use Rattle.node.specs.declared.Op.{Op}
 use Rattle.node.specs.declared.OperandKind.the-variants.{NoOperand, PlaceT}
 use Rattle.node.specs.declared.Value.{Value}
 use Rattle.node.specs.Lists.{allFrom, allOf, allTwo}
-use Rattle.node.specs.Mailboxes.{emptied}
 use Rattle.node.specs.Nodes.{noOp}
 use Rattle.node.specs.Ops.{kindsOf, opCount, recvOp}
 use Rattle.node.specs.Processes.{fresh}
 use Rattle.node.proofs.Lists.{allFrom-at}
-use Rattle.rules.specs.Behaviours.{Instruction, instruction, numeric, operand, operandInRange, inRange, onClause, isRecv, isClause, clauseCount, noInstruction, hasClauses, dueNext, due, targetFree, targetsFree, wellPlaced, codeSound}
+use Rattle.rules.specs.Behaviours.{Instruction, instruction, numeric, operand, operandInRange, inRange, onClause, isRecv, isClause, clauseCount, noInstruction, hasClauses, dueNext}
+use Rattle.rules.specs.Behaviours.{due, targetFree, targetsFree, wellPlaced, codeSound}
 use Rattle.rules.specs.Nodes.{standing, standingSound}
 use Rattle.node.specs.Values.{fitsInt, valueSound}
 use Rattle.rules.proofs.All.{parts, allOf-at, map-at, allTwo-at}
-use Rattle.rules.proofs.Living.{codeOf, Alive, alive-sound, none-apart, emptied-mailed}
+use Rattle.rules.proofs.Living.{codeOf, Alive, alive-sound, none-apart, empty-mailed}
 
 -- ---- places
 
@@ -153,8 +152,8 @@ recv-clauses c ops checked t inside e =
 -- ---- a process that begins
 
 -- it stands at place 0, which no clause is on: none is due there
-module _ (codes : List (List Instruction)) (sounds : So (allOf (codeSound (length codes)) codes)) (i : ℕ) (b : BehaviourNumber) (v : Value) (m : Mailbox) where
-  fresh-alive : So (leb 1 (b .0) && leb (b .0) (length codes)) → So (valueSound v) → Alive codes i (fresh b v) (emptied m)
+module _ (codes : List (List Instruction)) (sounds : So (allOf (codeSound (length codes)) codes)) (i : ℕ) (b : BehaviourNumber) (v : Value) where
+  fresh-alive : So (leb 1 (b .0) && leb (b .0) (length codes)) → So (valueSound v) → Alive codes i (fresh b v) []
   unfolding fitsInt
   fresh-alive known h =
       let w = parts (leb 1 (b .0)) (leb (b .0) (length codes)) known in
@@ -166,8 +165,8 @@ module _ (codes : List (List Instruction)) (sounds : So (allOf (codeSound (lengt
         placed = record { known = known; within = le-leb 0 (length (codeOf codes (b .0))) (omega arith); off = none-due-off (length codes) (codeOf codes (b .0)) sound 0 refl };
         valued = record { v0 = h; v1 = refl; v2 = refl; v3 = refl };
         apart = none-apart i;
-        mailed = emptied-mailed m;
+        mailed = empty-mailed;
       }
 
-  pub fresh-sound : So (leb 1 (b .0) && leb (b .0) (length codes)) → So (valueSound v) → So (standingSound codes i (standing (fresh b v) (emptied m)))
-  fresh-sound known h = alive-sound codes i (fresh b v) (emptied m) (fresh-alive known h)
+  pub fresh-sound : So (leb 1 (b .0) && leb (b .0) (length codes)) → So (valueSound v) → So (standingSound codes i (standing (fresh b v) []))
+  fresh-sound known h = alive-sound codes i (fresh b v) [] (fresh-alive known h)

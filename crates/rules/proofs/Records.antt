@@ -1,5 +1,5 @@
--- The record operations are the list and set operations on what a record holds, and soundness goes by the view and the lengths of arrays alone.
--- A mailbox has 16 slots, a row 4 cells and a link set 16 entries: their types say so. Assumes nothing.
+-- The changes of blocks and sets are the list and set operations on what they hold, and soundness goes by the view and the lengths of
+-- arrays alone. A mailbox has 16 slots and a row 4 cells. Assumes nothing.
 use mathlib.Core.Bool.{Bool, true, false, not, _&&_, _||_, and-eq-true-iff}
 use mathlib.Core.List.{List, [], _∷_, _++_, map}
 use mathlib.Core.Path.{_≡_, refl, sym, _∙_, ap}
@@ -12,85 +12,70 @@ use lib.Dec.{eqb, leb}
 use lib.ListN.{length, getD, take, drop, set}
 use lib.Seq.{getD-set-same, getD-set-other}
 use Rattle.node.specs.declared.Cell.{Cell}
-use Rattle.node.specs.declared.Mailbox.{Mailbox}
 use Rattle.node.specs.declared.Message.{Message}
 use Rattle.node.specs.declared.Node.{Node}
 use Rattle.node.specs.declared.Peers.{Peers}
 use Rattle.node.specs.declared.Process.{Process}
-use Rattle.node.specs.declared.Row.{Row}
 use Rattle.node.specs.declared.Signal.{Signal}
 use Rattle.node.specs.declared.Slot.{Slot}
 use Rattle.node.specs.declared.Value.{Value}
-use Rattle.node.specs.Lists.{firsts, leave}
-use Rattle.node.specs.Mailboxes.{noMessage, messages, joined, without, emptied}
+use Rattle.node.specs.Blocks.{Block, held, joined, left, popped, emptied}
+use Rattle.node.specs.Lists.{without}
+use Rattle.node.specs.Mailboxes.{noMessage, slotOf, messages}
 use Rattle.node.specs.Processes.{ended, gone}
 use Rattle.node.specs.Sets.{bitsOf, has, withPeer, withoutPeer}
 use Rattle.node.proofs.Sets.{bits-of-length, bits-of-with, bits-of-without}
-use Rattle.node.specs.Rows.{noSignal, signals, oldest, pushed, popped}
-use Rattle.node.proofs.Lists.{firsts-join, firsts-leave, firsts-behind, map-append, map-take, map-drop}
+use Rattle.node.specs.Rows.{noSignal, cellOf, signals, oldest}
+use Rattle.node.proofs.Blocks.{held-joined, held-left, held-popped}
+use Rattle.node.proofs.Contents.{messages-length, signals-length}
+use Rattle.node.proofs.Lists.{map-append}
 use Rattle.rules.specs.Nodes.{Equal, sound, shaped, viewSound, setOf, standing}
 use Rattle.rules.specs.Nodes as nodes
 use Rattle.node.specs.Values.{isNumber}
 
--- ---- an array and its count, for slots and for cells
-
-module _ {A B : Type 0} (f : A → B) (d : A) where
-  held : ℕ → List A → List B
-  held n l = map f (firsts d n l)
-
-  held-join : (n : ℕ) (l : List A) (x : A) → n < length l → held (suc n) (set l n x) ≡ held n l ++ (f x ∷ [])
-  unfolding held
-  held-join n l x h = ap (map f) (firsts-join d x n l h) ∙ map-append f (firsts d n l) (x ∷ [])
-
-  held-leave : (n k : ℕ) (l : List A) → k ≤ n → k < length l → held n (leave d k l) ≡ take k (held (suc n) l) ++ drop (suc k) (held (suc n) l)
-  unfolding held
-  held-leave n k l h g =
-      ap (map f) (firsts-leave d n k l h g) ∙ map-append f (take k (firsts d (suc n) l)) (drop (suc k) (firsts d (suc n) l))
-      ∙ rw (map-take f k (firsts d (suc n) l), map-drop f (suc k) (firsts d (suc n) l))
-
 -- ---- mailboxes
 
-module _ (m : Mailbox) (sixteen : length (m .slots) ≡ 16) where
+map-without : {A B : Type 0} (f : A → B) (k : ℕ) (l : List A) → map f (without k l) ≡ without k (map f l)
+map-without f k [] = refl
+map-without f zero (x ∷ l) = refl
+map-without {B = B} f (suc k) (x ∷ l) = ap (λ (r : List B). f x ∷ r) (map-without f k l)
+
+module _ (b : Block Slot) (sixteen : length (b .cells) ≡ 16) where
   -- a message joins behind the others
-  pub messages-joined : (x : Message) → m .count < 16 → messages (joined m x) ≡ messages m ++ (x ∷ [])
-  unfolding messages joined held
+  pub messages-joined : (x : Message) → length (messages b) < 16 → messages (joined (slotOf x) b) ≡ messages b ++ (x ∷ [])
+  unfolding messages
   messages-joined x h =
-      let c : min (m .count + 1) 255 ≡ suc (m .count) = omega arith in
-      ap (λ (n : ℕ). map (λ (s : Slot). s .message) (firsts noMessage n (set (m .slots) (m .count) (record { message = x })))) c
-      ∙ held-join (λ (s : Slot). s .message) noMessage (m .count) (m .slots) (record { message = x }) (omega arith)
+      let c : b .count < 16 = rw (messages-length b) at h in
+      ap (map (λ (s : Slot). s .message)) (held-joined noMessage b (omega arith) (slotOf x) (omega arith) (omega arith)) ∙ map-append (λ (s : Slot). s .message) (held noMessage b) (slotOf x ∷ [])
 
   -- message k leaves, the rest keep their order
-  pub messages-without : (k : ℕ) → k < m .count → m .count ≤ 16 → messages (without m k) ≡ take k (messages m) ++ drop (suc k) (messages m)
-  unfolding messages without held
-  messages-without k h g =
-      let c : m .count ≡ suc (m .count - 1) = omega arith in
-      held-leave (λ (s : Slot). s .message) noMessage (m .count - 1) k (m .slots) (omega arith) (omega arith)
-      ∙ ap (λ (n : ℕ). take k (map (λ (s : Slot). s .message) (firsts noMessage n (m .slots))) ++ drop (suc k) (map (λ (s : Slot). s .message) (firsts noMessage n (m .slots)))) (sym c)
+  pub messages-left : (k : ℕ) → k < length (messages b) → length (messages b) ≤ 16 → messages (left k b) ≡ without k (messages b)
+  unfolding messages
+  messages-left k h g =
+      let c : k < b .count = rw (messages-length b) at h in
+      let e : b .count ≤ 16 = rw (messages-length b) at g in
+      ap (map (λ (s : Slot). s .message)) (held-left noMessage b (omega arith) k c) ∙ map-without (λ (s : Slot). s .message) k (held noMessage b)
 
-pub messages-emptied : (m : Mailbox) → messages (emptied m) ≡ []
+pub messages-emptied : (b : Block Slot) → messages (emptied b) ≡ []
 unfolding messages emptied
-messages-emptied m = refl
+messages-emptied b = refl
 
 -- ---- rows in flight
 
-module _ (r : Row) (four : length (r .cells) ≡ 4) where
+module _ (b : Block Cell) (four : length (b .cells) ≡ 4) where
   -- a signal is sent behind the others
-  pub signals-pushed : (x : Signal) → r .count < 4 → signals (pushed r x) ≡ signals r ++ (x ∷ [])
-  unfolding signals pushed held
-  signals-pushed x h =
-      let c : min (r .count + 1) 255 ≡ suc (r .count) = omega arith in
-      ap (λ (n : ℕ). map (λ (s : Cell). s .signal) (firsts noSignal n (set (r .cells) (r .count) (record { signal = x })))) c
-      ∙ held-join (λ (s : Cell). s .signal) noSignal (r .count) (r .cells) (record { signal = x }) (omega arith)
+  pub signals-joined : (x : Signal) → length (signals b) < 4 → signals (joined (cellOf x) b) ≡ signals b ++ (x ∷ [])
+  unfolding signals
+  signals-joined x h =
+      let c : b .count < 4 = rw (signals-length b) at h in
+      ap (map (λ (s : Cell). s .signal)) (held-joined noSignal b (omega arith) (cellOf x) (omega arith) (omega arith)) ∙ map-append (λ (s : Cell). s .signal) (held noSignal b) (cellOf x ∷ [])
 
   -- the oldest signal leaves; it is the first
-  pub signals-popped : 0 < r .count → r .count ≤ 4 → signals r ≡ oldest r ∷ signals (popped r)
-  unfolding signals popped oldest held
-  signals-popped h g = go (r .cells) (r .count) four h
-    where
-      go : (l : List Cell) (n : ℕ) → length l ≡ 4 → 0 < n → map (λ (s : Cell). s .signal) (firsts noSignal n l) ≡ getD l 0 noSignal .signal ∷ map (λ (s : Cell). s .signal) (firsts noSignal (n - 1) (leave noSignal 0 l))
-      go l zero e p = absurd (omega arith)
-      go [] (suc n) e p = absurd (omega arith)
-      go (x ∷ l) (suc n) e p = rw (sub-one, firsts-behind noSignal n l)
+  pub signals-popped : 0 < length (signals b) → signals b ≡ oldest b ∷ signals (popped noSignal b)
+  unfolding signals oldest
+  signals-popped h =
+      let c : 0 < b .count = rw (signals-length b) at h in
+      ap (map (λ (s : Cell). s .signal)) (held-popped noSignal b c (omega arith))
 
 -- ---- link sets
 
@@ -131,11 +116,11 @@ module _ (s : Peers) (j : ℕ) (number : isNumber j ≡ true) where
 -- ---- ending
 
 -- an ended process holds its reason and its links, which are unchanged
-pub standing-ended : (p : Process) (m : Mailbox) (v : Value) → standing (ended p v) m ≡ nodes.closing v (setOf (p .links))
+pub standing-ended : (p : Process) (m : List Message) (v : Value) → standing (ended p v) m ≡ nodes.closing v (setOf (p .links))
 unfolding standing ended
 standing-ended p m v = refl
 
-pub standing-gone : (p : Process) (m : Mailbox) → standing (gone p) m ≡ nodes.gone
+pub standing-gone : (p : Process) (m : List Message) → standing (gone p) m ≡ nodes.gone
 unfolding standing gone
 standing-gone p m = refl
 

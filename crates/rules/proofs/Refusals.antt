@@ -32,7 +32,8 @@ pub rule-told : (n : Node) (a : Action) → Told Ruled (rule n a)
 unfolding rule ready
 rule-told n a =
     goOn-ruled (ready n a) _
-    (need-ruled (numbered a) badNumber _ (omega arith, omega arith) (need-ruled (ownerBorn n a) ownerUnborn _ (omega arith, omega arith) (need-ruled (signalWaits n a) noneInFlight _ (omega arith, omega arith)
+    (need-ruled (numbered a) badNumber _ (omega arith, omega arith) (need-ruled (ownerBorn n a) ownerUnborn _ (omega arith, omega arith)
+    (need-ruled (signalWaits n a) noneInFlight _ (omega arith, omega arith)
     (goOn-ruled (decide n a) _ (decide-told n a) (λ e. need-ruled (pairHasRoom n (owner a) (e .sent)) pairFull _ (omega arith, omega arith) tt)))))
     (λ e. need-ruled (numberFree n (e .born)) notUnborn _ (omega arith, omega arith) tt)
 

@@ -1,4 +1,4 @@
--- A run: what it refuses with, that arrays keep their lengths, and that it keeps what an effect must keep. Assumes nothing.
+-- A run: what it refuses with, and that it keeps what an effect must keep. Assumes nothing.
 use mathlib.Core.Bool.{not, So, _&&_}
 use mathlib.Core.List.{List, map}
 use mathlib.Core.Path.{_≡_, refl, sym, ap, subst}
@@ -12,7 +12,6 @@ use Rattle.node.specs.declared.Process.{Process}
 use Rattle.node.specs.declared.Stage.{Stage}
 use Rattle.node.specs.declared.Stage.the-variants.{Closing, Gone}
 use Rattle.node.specs.Lists.{allOf}
-use Rattle.node.specs.Mailboxes.{sixteenSlots}
 use Rattle.node.specs.Nodes.{noOp}
 use Rattle.node.specs.Processes.{unlinked, gone}
 use Rattle.node.specs.Values.{normal, isNumber, valueSound}
@@ -23,7 +22,7 @@ use Rattle.rules.specs.Run.{runsOp, closes, runs}
 use Rattle.rules.specs.Steps.{isUnborn}
 use Rattle.rules.proofs.All.{both, parts}
 use Rattle.rules.proofs.Cases.{closes-any, runs-any}
-use Rattle.rules.proofs.Keeps.{Fills, Good, ends-good}
+use Rattle.rules.proofs.Keeps.{Good, ends-good}
 use Rattle.rules.proofs.Living.{codeOf, Unlinked, alive, without-apart}
 use Rattle.rules.proofs.Ops.{At, op-shown}
 use Rattle.rules.proofs.Told.{Told, Ruled, told-more}
@@ -53,14 +52,15 @@ module _ (codes : List (List Instruction)) (i : ℕ) (st : State) (sound : So (s
   unfolding standing
   in-stage s q e h = subst (λ (s : Stage). So (standingSound codes i (standingIn s q (st .mail)))) (sym e) h
 
-  closes-good : st .process .stage ≡ Closing → Good codes i (closes st)
+  closes-good : st .process .stage ≡ Closing → Good codes i (st .mail) (closes st)
   closes-good e =
       let p = st .process in
       let w = parts (valueSound (p .reason)) (not (setOf (p .links) i)) (at-stage Closing e) in
-      closes-any st (Good codes i)
-      (record { sound = in-stage Gone (gone p) (gone-stage p) refl; born = ap isUnborn (gone-stage p); sent = tt; birth = tt; apart = tt })
+      closes-any st (Good codes i (st .mail))
+      (record { sound = in-stage Gone (gone p) (gone-stage p) refl; mail = tt; born = ap isUnborn (gone-stage p); sent = tt; birth = tt; apart = tt })
       (λ j n. record {
         sound = in-stage Closing (unlinked p j) (unlinked-stage p j e) (closing-sound p i j (w .0) (w .1));
+        mail = tt;
         born = ap isUnborn (unlinked-stage p j e);
         sent = (n, w .0);
         birth = tt;
@@ -72,9 +72,6 @@ module _ (st : State) where
   pub closes-told : (P : ℕ → Type 0) → Told P (closes st)
   closes-told P = closes-any st (Told P) tt (λ j n. tt)
 
-  closes-full : So (sixteenSlots (st .mail)) → Fills (closes st)
-  closes-full s = closes-any st Fills s (λ j n. s)
-
 -- ---- a run
 
 module _ (code : List Op) (i : ℕ) (st : State) where
@@ -85,14 +82,11 @@ module _ (code : List Op) (i : ℕ) (st : State) where
       (λ q d. told-more (At (o .number)) Ruled (λ k e. (omega (arith, e .0), omega (arith, e .0))) (runsOp code i st o) (op-shown code i st o .told))
       (λ q. closes-told st Ruled) (λ q. (omega arith, omega arith))
 
-  pub runs-full : So (sixteenSlots (st .mail)) → Fills (runs code i st)
-  runs-full s = runs-any st Fills code i (λ q. tt) (λ q d. s) (λ q d. op-shown code i st (getD code (st .process .place) noOp) .full s) (λ q. closes-full st s) (λ q. tt)
-
   pub runs-good : (codes : List (List Instruction)) → So (isNumber i) → So (standingSound codes i (standing (st .process) (st .mail))) →
       (So (leb 1 (st .process .behaviour .0) && leb (st .process .behaviour .0) (length codes)) → codeOf codes (st .process .behaviour .0) ≡ map instruction code) →
-      So (allOf (codeSound (length codes)) codes) → Good codes i (runs code i st)
+      So (allOf (codeSound (length codes)) codes) → Good codes i (st .mail) (runs code i st)
   runs-good codes number sound same sounds =
-      runs-any st (Good codes i) code i (λ q. tt)
+      runs-any st (Good codes i (st .mail)) code i (λ q. tt)
       (λ q d. ends-good codes i st normal refl (alive codes i (st .process) (st .mail) q sound .apart))
       (λ q d.
       let a = alive codes i (st .process) (st .mail) q sound in

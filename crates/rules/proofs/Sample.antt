@@ -9,10 +9,10 @@ use Rattle.node.specs.declared.Process.{Process}
 use Rattle.node.specs.declared.Value.{Value}
 use Rattle.node.specs.declared.Value.the-variants.{Int}
 use Rattle.node.specs.Lists.{firsts}
-use Rattle.node.specs.Mailboxes.{emptyMailbox}
+use Rattle.node.specs.Mailboxes.{noMessage}
 use Rattle.node.specs.Ops.{stopOp}
 use Rattle.node.specs.Processes.{unborn, fresh}
-use Rattle.node.specs.Rows.{emptyRow}
+use Rattle.node.specs.Rows.{noSignal}
 use Rattle.node.specs.Values.{intZero, pid, intKind}
 
 unfoldable pub opOf : ℕ → ℕ → ℕ → ℕ → ℕ → Value → Op
@@ -30,8 +30,10 @@ sample p q = record {
       ++ firsts stopOp 32 (opOf 10 0 0 0 1 intZero ∷ opOf 11 0 1 2 intKind intZero ∷ [])
       ++ replicate 192 stopOp;
   processes = p ∷ q ∷ replicate 14 unborn;
-  mail = replicate 16 emptyMailbox;
-  flight = replicate 256 emptyRow;
+  waiting = replicate 16 0;
+  slots = replicate 256 noMessage;
+  counts = replicate 256 0;
+  cells = replicate 1024 noSignal;
 }
 
 -- as it is started

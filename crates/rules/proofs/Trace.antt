@@ -49,7 +49,8 @@ module _ {S : Type 0} (owner : S → ℕ) where
   owned-swap s t a h i = go (eqb (owner s) i) (eqb (owner t) i) refl refl
     where
       go : (x y : Bool) → eqb (owner s) i ≡ x → eqb (owner t) i ≡ y →
-          cond x (s ∷ cond y (t ∷ owned owner i a) (owned owner i a)) (cond y (t ∷ owned owner i a) (owned owner i a)) ≡ cond y (t ∷ cond x (s ∷ owned owner i a) (owned owner i a)) (cond x (s ∷ owned owner i a) (owned owner i a))
+          cond x (s ∷ cond y (t ∷ owned owner i a) (owned owner i a)) (cond y (t ∷ owned owner i a) (owned owner i a)) ≡ cond y (t ∷ cond x (s ∷ owned owner i a) (owned owner i a))
+          (cond x (s ∷ owned owner i a) (owned owner i a))
       go true true p q = absurd (h (eqb-true (owner s) i p ∙ sym (eqb-true (owner t) i q)))
       go true false p q = refl
       go false true p q = refl

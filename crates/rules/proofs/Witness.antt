@@ -3,15 +3,18 @@ use mathlib.Core.Bool.{false}
 use mathlib.Core.List.{List, [], _∷_, map}
 use mathlib.Core.Path.{_≡_, refl, sym, _∙_, ap}
 use Prim.Native.Nat.{ℕ}
-use lib.ListN.{length}
+use lib.ListN.{length, set, replicate}
+use Rattle.node.specs.declared.Message.the-variants.{Plain}
 use Rattle.node.specs.declared.Node.{Node}
 use Rattle.node.specs.declared.Process.{Process}
+use Rattle.node.specs.declared.Slot.{Slot}
 use Rattle.node.specs.declared.Stage.the-variants.{Closing}
 use Rattle.node.specs.declared.Value.{Value}
-use Rattle.node.specs.Mailboxes.{messages, joined, without, emptied}
+use Rattle.node.specs.Blocks.{changed, joined, left, popped, emptied}
+use Rattle.node.specs.Mailboxes.{noMessage, slotOf, messages}
 use Rattle.node.specs.Ops.{kindsOf}
 use Rattle.node.specs.Processes.{register, withRegister, moved, advanced, trapped, linksTo, linked, unlinked, ended, gone}
-use Rattle.node.specs.Rows.{signals, oldest, pushed, popped}
+use Rattle.node.specs.Rows.{signals, oldest}
 use Rattle.node.specs.Sets.{noPeers, bitsOf, has, withPeer, withoutPeer, lowestPeer}
 use Rattle.node.specs.Values.{intZero, normal, pid, isNumber, fitsInt}
 use Rattle.rules.specs.Arrive.{arrives, exits}
@@ -20,7 +23,7 @@ use Rattle.rules.specs.Calls.{Call, single, schedule, callNode, callStep
 use Rattle.rules.specs.Nodes.{Sound, sound, shaped, viewSound, view, behavioursOf, code, setOf, standing, runningSound, rowSound}
 use Rattle.rules.specs.Receive.{receives, fits}
 use Rattle.rules.specs.Run.{runs, runsLive, runsOp, closes}
-use Rattle.rules.specs.Steps.{run, arrive, play, played, step, rule, ready, commit, incoming, decide, at, numbered, ownerBorn, signalWaits, pairHasRoom, numberFree}
+use Rattle.rules.specs.Steps.{run, arrive, play, played, step, rule, ready, commit, incoming, decide, numbered, ownerBorn, signalWaits, pairHasRoom, numberFree}
 use Rattle.rules.specs.Traces.{owned}
 use Rattle.rules.proofs.Sample.{opOf, int, sample, started}
 
@@ -44,31 +47,35 @@ mixed = single (run 2) ∷ single (run 3) ∷ schedule (run 1 ∷ run 1 ∷ run 
 stands : ℕ → ℕ → Value → Value → Process
 stands b t v w = record { stage = Closing; behaviour = record { 0 = b }; place = t; r0 = v; r1 = w; r2 = intZero; r3 = intZero; trap = false; links = noPeers; reason = normal }
 
+withSlots : Node → List Slot → Node
+withSlots n slots = record { count = n .count; lens = n .lens; ops = n .ops; processes = n .processes; waiting = n .waiting; slots = slots; counts = n .counts; cells = n .cells }
+
+-- the message that was received stays behind in the slot where it stood, and is not counted
 finish : Node
-finish = sample (stands 1 3 (pid 2) (int 12)) (stands 2 2 (int 12) intZero)
+finish = withSlots (sample (stands 1 3 (pid 2) (int 12)) (stands 2 2 (int 12) intZero)) (set (replicate 256 noMessage) 16 (slotOf (Plain (int 12))))
 
 early-end : after started early ≡ finish
-unfolding early late mixed finish stands after accepted callNode callSteps owned started sample opOf play played step rule ready commit incoming decide at numbered ownerBorn signalWaits pairHasRoom numberFree sound shaped viewSound view behavioursOf code setOf has bitsOf standing runningSound rowSound receives fits runs runsLive runsOp closes arrives exits operand instruction operandInRange inRange hasClauses targetsFree wellPlaced codeSound isNumber fitsInt messages joined without emptied signals oldest pushed popped register withRegister moved advanced trapped linksTo linked unlinked withPeer withoutPeer lowestPeer ended gone kindsOf
+unfolding early late mixed finish withSlots stands after accepted callNode callSteps owned started sample opOf play played step rule ready commit incoming decide numbered ownerBorn signalWaits pairHasRoom numberFree sound shaped viewSound view behavioursOf code setOf has bitsOf standing runningSound rowSound receives fits runs runsLive runsOp closes arrives exits operand instruction operandInRange inRange hasClauses targetsFree wellPlaced codeSound isNumber fitsInt messages changed joined left popped emptied signals oldest register withRegister moved advanced trapped linksTo linked unlinked withPeer withoutPeer lowestPeer ended gone kindsOf
 early-end = refl
 
 late-end : after started late ≡ finish
-unfolding early late mixed finish stands after accepted callNode callSteps owned started sample opOf play played step rule ready commit incoming decide at numbered ownerBorn signalWaits pairHasRoom numberFree sound shaped viewSound view behavioursOf code setOf has bitsOf standing runningSound rowSound receives fits runs runsLive runsOp closes arrives exits operand instruction operandInRange inRange hasClauses targetsFree wellPlaced codeSound isNumber fitsInt messages joined without emptied signals oldest pushed popped register withRegister moved advanced trapped linksTo linked unlinked withPeer withoutPeer lowestPeer ended gone kindsOf
+unfolding early late mixed finish withSlots stands after accepted callNode callSteps owned started sample opOf play played step rule ready commit incoming decide numbered ownerBorn signalWaits pairHasRoom numberFree sound shaped viewSound view behavioursOf code setOf has bitsOf standing runningSound rowSound receives fits runs runsLive runsOp closes arrives exits operand instruction operandInRange inRange hasClauses targetsFree wellPlaced codeSound isNumber fitsInt messages changed joined left popped emptied signals oldest register withRegister moved advanced trapped linksTo linked unlinked withPeer withoutPeer lowestPeer ended gone kindsOf
 late-end = refl
 
 mixed-end : after started mixed ≡ finish
-unfolding early late mixed finish stands after accepted callNode callSteps owned started sample opOf play played step rule ready commit incoming decide at numbered ownerBorn signalWaits pairHasRoom numberFree sound shaped viewSound view behavioursOf code setOf has bitsOf standing runningSound rowSound receives fits runs runsLive runsOp closes arrives exits operand instruction operandInRange inRange hasClauses targetsFree wellPlaced codeSound isNumber fitsInt messages joined without emptied signals oldest pushed popped register withRegister moved advanced trapped linksTo linked unlinked withPeer withoutPeer lowestPeer ended gone kindsOf
+unfolding early late mixed finish withSlots stands after accepted callNode callSteps owned started sample opOf play played step rule ready commit incoming decide numbered ownerBorn signalWaits pairHasRoom numberFree sound shaped viewSound view behavioursOf code setOf has bitsOf standing runningSound rowSound receives fits runs runsLive runsOp closes arrives exits operand instruction operandInRange inRange hasClauses targetsFree wellPlaced codeSound isNumber fitsInt messages changed joined left popped emptied signals oldest register withRegister moved advanced trapped linksTo linked unlinked withPeer withoutPeer lowestPeer ended gone kindsOf
 mixed-end = refl
 
 pub early-steps : accepted started early ≡ run 1 ∷ run 1 ∷ run 1 ∷ run 1 ∷ arrive 2 1 ∷ run 2 ∷ run 2 ∷ []
-unfolding early late mixed finish stands after accepted callNode callSteps owned started sample opOf play played step rule ready commit incoming decide at numbered ownerBorn signalWaits pairHasRoom numberFree sound shaped viewSound view behavioursOf code setOf has bitsOf standing runningSound rowSound receives fits runs runsLive runsOp closes arrives exits operand instruction operandInRange inRange hasClauses targetsFree wellPlaced codeSound isNumber fitsInt messages joined without emptied signals oldest pushed popped register withRegister moved advanced trapped linksTo linked unlinked withPeer withoutPeer lowestPeer ended gone kindsOf
+unfolding early late mixed finish withSlots stands after accepted callNode callSteps owned started sample opOf play played step rule ready commit incoming decide numbered ownerBorn signalWaits pairHasRoom numberFree sound shaped viewSound view behavioursOf code setOf has bitsOf standing runningSound rowSound receives fits runs runsLive runsOp closes arrives exits operand instruction operandInRange inRange hasClauses targetsFree wellPlaced codeSound isNumber fitsInt messages changed joined left popped emptied signals oldest register withRegister moved advanced trapped linksTo linked unlinked withPeer withoutPeer lowestPeer ended gone kindsOf
 early-steps = refl
 
 pub late-steps : accepted started late ≡ run 1 ∷ run 1 ∷ run 1 ∷ arrive 2 1 ∷ run 2 ∷ run 2 ∷ run 1 ∷ []
-unfolding early late mixed finish stands after accepted callNode callSteps owned started sample opOf play played step rule ready commit incoming decide at numbered ownerBorn signalWaits pairHasRoom numberFree sound shaped viewSound view behavioursOf code setOf has bitsOf standing runningSound rowSound receives fits runs runsLive runsOp closes arrives exits operand instruction operandInRange inRange hasClauses targetsFree wellPlaced codeSound isNumber fitsInt messages joined without emptied signals oldest pushed popped register withRegister moved advanced trapped linksTo linked unlinked withPeer withoutPeer lowestPeer ended gone kindsOf
+unfolding early late mixed finish withSlots stands after accepted callNode callSteps owned started sample opOf play played step rule ready commit incoming decide numbered ownerBorn signalWaits pairHasRoom numberFree sound shaped viewSound view behavioursOf code setOf has bitsOf standing runningSound rowSound receives fits runs runsLive runsOp closes arrives exits operand instruction operandInRange inRange hasClauses targetsFree wellPlaced codeSound isNumber fitsInt messages changed joined left popped emptied signals oldest register withRegister moved advanced trapped linksTo linked unlinked withPeer withoutPeer lowestPeer ended gone kindsOf
 late-steps = refl
 
 pub mixed-steps : accepted started mixed ≡ run 1 ∷ run 1 ∷ run 1 ∷ run 1 ∷ arrive 2 1 ∷ run 2 ∷ run 2 ∷ []
-unfolding early late mixed finish stands after accepted callNode callSteps owned started sample opOf play played step rule ready commit incoming decide at numbered ownerBorn signalWaits pairHasRoom numberFree sound shaped viewSound view behavioursOf code setOf has bitsOf standing runningSound rowSound receives fits runs runsLive runsOp closes arrives exits operand instruction operandInRange inRange hasClauses targetsFree wellPlaced codeSound isNumber fitsInt messages joined without emptied signals oldest pushed popped register withRegister moved advanced trapped linksTo linked unlinked withPeer withoutPeer lowestPeer ended gone kindsOf
+unfolding early late mixed finish withSlots stands after accepted callNode callSteps owned started sample opOf play played step rule ready commit incoming decide numbered ownerBorn signalWaits pairHasRoom numberFree sound shaped viewSound view behavioursOf code setOf has bitsOf standing runningSound rowSound receives fits runs runsLive runsOp closes arrives exits operand instruction operandInRange inRange hasClauses targetsFree wellPlaced codeSound isNumber fitsInt messages changed joined left popped emptied signals oldest register withRegister moved advanced trapped linksTo linked unlinked withPeer withoutPeer lowestPeer ended gone kindsOf
 mixed-steps = refl
 
 -- different orders, equal ends

@@ -7,6 +7,7 @@ use mathlib.Core.Bool.{Bool, cond, not, _&&_}
 use mathlib.Core.Option.{none}
 use Prim.Native.Nat.{ℕ}
 use lib.Dec.{ltb, eqb}
+use lib.ListN.{length}
 use Rattle.node.specs.declared.Message.{Message}
 use Rattle.node.specs.declared.Message.the-variants.{Plain, Note}
 use Rattle.node.specs.declared.Process.{Process}
@@ -15,15 +16,14 @@ use Rattle.node.specs.declared.Signal.the-variants.{Msg, Exit, Link, Unlink}
 use Rattle.node.specs.declared.Stage.{Stage}
 use Rattle.node.specs.declared.Stage.the-variants.{Unborn, Live, Closing, Gone}
 use Rattle.node.specs.declared.Value.{Value}
-use Rattle.node.specs.Mailboxes.{joined}
 use Rattle.node.specs.Processes.{linksTo, linked, unlinked}
 use Rattle.node.specs.Values.{normal, kill, killed, sameValue}
 use Rattle.rules.specs.Answers.{Answer, refused, done, need, ownerUnborn, mailboxFull}
-use Rattle.rules.specs.Effects.{State, Effect, becomes, ends}
+use Rattle.rules.specs.Effects.{State, Effect, joining, becomes, ends}
 
 -- process p, and message x behind the others
 abbrev pub joinsWith : State → Process → Message → Answer Effect
-joinsWith st p x = need (ltb (st .mail .count) 16) mailboxFull (done (record { process = p; mail = joined (st .mail) x; sent = none; born = none }))
+joinsWith st p x = need (ltb (length (st .mail)) 16) mailboxFull (done (record { process = p; mail = joining x; sent = none; born = none }))
 
 abbrev pub joins : State → Message → Answer Effect
 joins st x = joinsWith st (st .process) x

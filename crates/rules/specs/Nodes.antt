@@ -1,6 +1,6 @@
 -- The node: processes in their stages, signals in flight, soundness and equality (document 01, "The node").
 --   code n b       the ops of behaviour b
---   process n i    process i;  mailbox n i  its mailbox;  row n j i  the row in flight from j to i
+--   process n i    process i;  mailbox n i  its messages, in order of arrival;  row n j i  the signals in flight from j to i, in order of sending
 --   Standing       a process in one of the four stages, with what that stage holds
 --   View           document 01's node: behaviours, processes and rows in flight, with nothing that a record only keeps room for
 --   view n         what the record n holds
@@ -13,22 +13,21 @@ use mathlib.Core.Path.{_≡_}
 use Prim.Native.Nat.{ℕ, _-_, _*_}
 use lib.Dec.{leb, eqb}
 use lib.ListN.{length, getD, drop}
-use Rattle.node.specs.declared.Mailbox.{Mailbox}
 use Rattle.node.specs.declared.Message.{Message}
 use Rattle.node.specs.declared.Node.{Node}
 use Rattle.node.specs.declared.Op.{Op}
 use Rattle.node.specs.declared.Peers.{Peers}
 use Rattle.node.specs.declared.Process.{Process}
-use Rattle.node.specs.declared.Row.{Row}
 use Rattle.node.specs.declared.Signal.{Signal}
 use Rattle.node.specs.declared.Signal.the-variants.{Msg, Exit, Link, Unlink}
 use Rattle.node.specs.declared.Stage.{Stage}
 use Rattle.node.specs.declared.Stage.the-variants.{Unborn, Live, Closing, Gone}
 use Rattle.node.specs.declared.Value.{Value}
+use Rattle.node.specs.Blocks.{blockOf}
 use Rattle.node.specs.Lists.{firsts, rising, allFrom, allOf}
-use Rattle.node.specs.Mailboxes.{messages, sixteenSlots}
-use Rattle.node.specs.Nodes.{noOp, noProcess, noMailbox, noRow, pair}
-use Rattle.node.specs.Rows.{fourCells, signals}
+use Rattle.node.specs.Mailboxes.{messages}
+use Rattle.node.specs.Nodes.{noOp, noProcess, pair, mailShelf, flightShelf}
+use Rattle.node.specs.Rows.{signals}
 use Rattle.node.specs.Sets.{has}
 use Rattle.rules.specs.Behaviours.{Instruction, instruction, onClause, codeSound}
 use Rattle.node.specs.Values.{numbers, isNumber, valueSound, messageSound}
@@ -41,11 +40,11 @@ code n b = firsts noOp (getD (n .lens) (b - 1) 0) (drop (32 * (b - 1)) (n .ops))
 abbrev pub process : Node → ℕ → Process
 process n i = getD (n .processes) (i - 1) noProcess
 
-abbrev pub mailbox : Node → ℕ → Mailbox
-mailbox n i = getD (n .mail) (i - 1) noMailbox
+abbrev pub mailbox : Node → ℕ → List Message
+mailbox n i = messages (blockOf 16 (i - 1) (mailShelf n))
 
-abbrev pub row : Node → ℕ → ℕ → Row
-row n j i = getD (n .flight) (pair j i) noRow
+abbrev pub row : Node → ℕ → ℕ → List Signal
+row n j i = signals (blockOf 4 (pair j i) (flightShelf n))
 
 -- ---- the node that a record holds
 
@@ -69,16 +68,16 @@ pub data Standing : Type 0 where
   closing : Value → (ℕ → Bool) → Standing
   gone : Standing
 
-abbrev pub running : Process → Mailbox → Running
-running p m = record { behaviour = p .behaviour .0; place = p .place; registers = p .r0 ∷ p .r1 ∷ p .r2 ∷ p .r3 ∷ []; trap = p .trap; links = setOf (p .links); mail = messages m }
+abbrev pub running : Process → List Message → Running
+running p m = record { behaviour = p .behaviour .0; place = p .place; registers = p .r0 ∷ p .r1 ∷ p .r2 ∷ p .r3 ∷ []; trap = p .trap; links = setOf (p .links); mail = m }
 
-abbrev pub standingIn : Stage → Process → Mailbox → Standing
+abbrev pub standingIn : Stage → Process → List Message → Standing
 standingIn Unborn p m = unborn
 standingIn Live p m = live (running p m)
 standingIn Closing p m = closing (p .reason) (setOf (p .links))
 standingIn Gone p m = gone
 
-unfoldable pub standing : Process → Mailbox → Standing
+unfoldable pub standing : Process → List Message → Standing
 standing p m = standingIn (p .stage) p m
 
 pub record View : Type 0 where
@@ -94,7 +93,7 @@ unfoldable pub view : Node → View
 view n = record {
   behaviours = behavioursOf n;
   processes = map (λ i. standing (process n i) (mailbox n i)) numbers;
-  flight = map (λ j. map (λ i. signals (row n j i)) numbers) numbers;
+  flight = map (λ j. map (row n j) numbers) numbers;
 }
 
 -- "Equal nodes have equal behaviours, stages, contents of each stage (link sets as sets) and in-flight rows"
@@ -144,8 +143,8 @@ shaped n =
     eqb (length (n .lens)) 8
     && eqb (length (n .ops)) 256
     && eqb (length (n .processes)) 16
-    && eqb (length (n .mail)) 16 && allOf sixteenSlots (n .mail)
-    && eqb (length (n .flight)) 256 && allOf fourCells (n .flight)
+    && eqb (length (n .waiting)) 16 && eqb (length (n .slots)) 256
+    && eqb (length (n .counts)) 256 && eqb (length (n .cells)) 1024
 
 unfoldable pub sound : Node → Bool
 sound n = viewSound (view n) && shaped n

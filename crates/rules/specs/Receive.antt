@@ -16,11 +16,10 @@ use Rattle.node.specs.declared.Op.{Op}
 use Rattle.node.specs.declared.Process.{Process}
 use Rattle.node.specs.declared.Value.{Value}
 use Rattle.node.specs.declared.Value.the-variants.{Pid}
-use Rattle.node.specs.Mailboxes.{messages, without}
 use Rattle.node.specs.Processes.{withRegister, moved}
 use Rattle.node.specs.Values.{exactKind, anyKind, messageKind, sameValue}
 use Rattle.rules.specs.Answers.{Answer, refused, done, noFit}
-use Rattle.rules.specs.Effects.{State, Effect}
+use Rattle.rules.specs.Effects.{State, Effect, leaving}
 
 abbrev pub isValue : Value → Message → Bool
 isValue w (Plain v) = sameValue v w
@@ -54,11 +53,11 @@ abbrev pub receivesFit : State → Option Fit → Answer Effect
 receivesFit st none = refused noFit
 receivesFit st (some f) = done (record {
   process = moved (withMessage (st .process) (f .clause) (f .message)) (f .clause .target);
-  mail = without (st .mail) (f .index);
+  mail = leaving (f .index);
   sent = none;
   born = none;
 })
 
 -- "The next n ops are its clauses"
 unfoldable pub receives : List Op → State → Op → Answer Effect
-receives code st o = receivesFit st (search (take (o .small) (drop (st .process .place + 1) code)) 0 (messages (st .mail)))
+receives code st o = receivesFit st (search (take (o .small) (drop (st .process .place + 1) code)) 0 (st .mail))

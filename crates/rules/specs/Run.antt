@@ -30,7 +30,7 @@ use Rattle.node.specs.Processes.{fresh, register, withRegister, moved, advanced
 use Rattle.node.specs.Sets.{lowestPeer}
 use Rattle.node.specs.Values.{normal, badarg, badarith, pid, fitsInt, sameValue}
 use Rattle.rules.specs.Answers.{Answer, refused, done, ownerUnborn, ownerGone}
-use Rattle.rules.specs.Effects.{State, Effect, becomes, ends, sends}
+use Rattle.rules.specs.Effects.{State, Effect, unchanged, becomes, ends, sends}
 use Rattle.rules.specs.Receive.{receives}
 
 -- "unless said, the place rises by 1"
@@ -84,7 +84,7 @@ toOther i st v a = cond (sameValue v (pid i)) (becomes st (advanced (st .process
 abbrev pub spawns : ℕ → State → Op → Answer Effect
 spawns i st o = done (record {
   process = advanced (withRegister (st .process) (o .r) (Pid (o .process)));
-  mail = st .mail;
+  mail = unchanged;
   sent = none;
   born = some (record { number = o .process .0; process = fresh (o .behaviour) (pid i) });
 })

@@ -15,17 +15,20 @@ use Prim.Native.Nat.{ℕ, _+_, _-_}
 use lib.Dec.{ltb}
 use lib.ListN.{length, getD, set}
 use Rattle.node.specs.declared.Node.{Node}
-use Rattle.node.specs.declared.Row.{Row}
+use Rattle.node.specs.declared.Cell.{Cell}
+use Rattle.node.specs.declared.Process.{Process}
 use Rattle.node.specs.declared.Signal.{Signal}
+use Rattle.node.specs.declared.Slot.{Slot}
 use Rattle.node.specs.declared.Stage.{Stage}
 use Rattle.node.specs.declared.Stage.the-variants.{Unborn, Live, Closing, Gone}
 use Rattle.node.specs.declared.Step.{Step}
-use Rattle.node.specs.Mailboxes.{emptied}
-use Rattle.node.specs.Nodes.{noProcess, noMailbox, noRow, pair}
-use Rattle.node.specs.Rows.{noSignal, signals, pushed, popped}
+use Rattle.node.specs.Blocks.{Shelf, changed, joined, left, popped, emptied}
+use Rattle.node.specs.Mailboxes.{slotOf}
+use Rattle.node.specs.Nodes.{pair, mailShelf, flightShelf}
+use Rattle.node.specs.Rows.{noSignal, cellOf}
 use Rattle.rules.specs.Answers.{Answer, refused, done, need, goOn, badNumber, ownerUnborn, noneInFlight, pairFull, notUnborn, notSound, scheduleTooLong}
 use Rattle.rules.specs.Arrive.{arrives}
-use Rattle.rules.specs.Effects.{State, Effect, Sending, Birth}
+use Rattle.rules.specs.Effects.{State, MailChange, unchanged, joining, leaving, Effect, Sending, Birth}
 use Rattle.rules.specs.Nodes.{code, process, mailbox, row, sound}
 use Rattle.rules.specs.Run.{runs}
 use Rattle.node.specs.Values.{isNumber}
@@ -62,12 +65,12 @@ ownerBorn n a = not (isUnborn (process n (owner a) .stage))
 -- 23: a signal is in flight from j to i
 unfoldable pub signalWaits : Node → Action → Bool
 signalWaits n (run i) = true
-signalWaits n (arrive i j) = ltb 0 (row n j i .count)
+signalWaits n (arrive i j) = ltb 0 (length (row n j i))
 
 -- 26: the pair has room for what i sends
 unfoldable pub pairHasRoom : Node → ℕ → Option Sending → Bool
 pairHasRoom n i none = true
-pairHasRoom n i (some x) = ltb (row n i (x .to) .count) 4
+pairHasRoom n i (some x) = ltb (length (row n i (x .to))) 4
 
 -- 27: the spawned number is unborn
 unfoldable pub numberFree : Node → Option Birth → Bool
@@ -81,39 +84,50 @@ state n i = record { process = process n i; mail = mailbox n i }
 
 -- "the oldest signal from j to i": the first in order of sending
 unfoldable pub incoming : Node → ℕ → ℕ → Signal
-incoming n j i = getD (signals (row n j i)) 0 (noSignal .signal)
+incoming n j i = getD (row n j i) 0 (noSignal .signal)
 
 unfoldable pub decide : Node → Action → Answer Effect
 decide n (run i) = runs (code n (process n i .behaviour .0)) i (state n i)
 decide n (arrive i j) = arrives i j (state n i) (incoming n j i)
 
--- element k of a list, changed where it stands; d stands for what is past the end
-unfoldable pub at : {A : Type 0} → A → (A → A) → ℕ → List A → List A
-at d f k l = set l k (f (getD l k d))
-
 -- "Arrive takes the oldest signal from j to i"
-abbrev pub withArrival : List Row → Action → List Row
-withArrival rows (run i) = rows
-withArrival rows (arrive i j) = at noRow popped (pair j i) rows
+abbrev pub withArrival : Shelf Cell → Action → Shelf Cell
+withArrival s (run i) = s
+withArrival s (arrive i j) = changed 4 (popped noSignal) (pair j i) s
 
-abbrev pub withSending : List Row → ℕ → Option Sending → List Row
-withSending rows i none = rows
-withSending rows i (some x) = at noRow (λ r. pushed r (x .signal)) (pair i (x .to)) rows
+abbrev pub withSending : Shelf Cell → ℕ → Option Sending → Shelf Cell
+withSending s i none = s
+withSending s i (some x) = changed 4 (joined (cellOf (x .signal))) (pair i (x .to)) s
 
--- in a list with an element to a process, that of the process that is brought to life changes
-abbrev pub withBirth : {A : Type 0} → A → (Birth → A → A) → List A → Option Birth → List A
-withBirth d f l none = l
-withBirth d f l (some b) = at d (f b) (b .number - 1) l
+-- the mailbox at k behind a change
+abbrev pub withMail : Shelf Slot → ℕ → MailChange → Shelf Slot
+withMail s k unchanged = s
+withMail s k (joining x) = changed 16 (joined (slotOf x)) k s
+withMail s k (leaving i) = changed 16 (left i) k s
+
+-- who is brought to life has no mail
+abbrev pub withoutMail : Shelf Slot → Option Birth → Shelf Slot
+withoutMail s none = s
+withoutMail s (some b) = changed 16 emptied (b .number - 1) s
+
+abbrev pub withBirth : List Process → Option Birth → List Process
+withBirth ps none = ps
+withBirth ps (some b) = set ps (b .number - 1) (b .process)
 
 unfoldable pub commit : Node → Action → Effect → Node
-commit n a e = record {
-  count = n .count;
-  lens = n .lens;
-  ops = n .ops;
-  processes = withBirth noProcess (λ b p. b .process) (set (n .processes) (owner a - 1) (e .process)) (e .born);
-  mail = withBirth noMailbox (λ b m. emptied m) (set (n .mail) (owner a - 1) (e .mail)) (e .born);
-  flight = withSending (withArrival (n .flight) a) (owner a) (e .sent);
-}
+commit n a e =
+    let mail = withoutMail (withMail (mailShelf n) (owner a - 1) (e .mail)) (e .born) in
+    let flight = withSending (withArrival (flightShelf n) a) (owner a) (e .sent) in
+    record {
+      count = n .count;
+      lens = n .lens;
+      ops = n .ops;
+      processes = withBirth (set (n .processes) (owner a - 1) (e .process)) (e .born);
+      waiting = mail .counts;
+      slots = mail .cells;
+      counts = flight .counts;
+      cells = flight .cells;
+    }
 
 -- ---- a step
 

@@ -1,104 +1,226 @@
 -- What the code reads of the arrays of a node is what `sound` reads of its view. Assumes nothing.
-use mathlib.Core.Bool.{Bool, true, false, So, _&&_, and-true}
-use mathlib.Core.List.{List, []}
+--   mailBlocks rowBlocks   the mailboxes, each with the process that it belongs to, and the rows in flight, as blocks to be walked
+--   shaped-node            a node that code holds has its arrays in full
+--   sound-not sound-due    `sound`, where the behaviours are not sound, and where they are: then the blocks give it
+use mathlib.Core.Bool.{Bool, true, false, So, _&&_, not, cond, and-assoc, and-comm, and-true, and-eq-true-iff}
+use mathlib.Core.List.{List, [], _∷_, map, flatMap}
 use mathlib.Core.Path.{_≡_, refl, sym, _∙_, ap}
-use Prim.Native.Nat.{ℕ, _+_, _-_, _≤_, _<_}
+use Prim.Native.Nat.{ℕ, zero, suc, _+_, _-_, _*_, _/_, _%_, _≤_, _<_}
+use native.Mathlib.Nat.{mod-eq-of-lt}
 use native.Mathlib.Omega.{arith}
-use borrow.Author.Tests.{ltb-false, ltb-true}
+use borrow.Author.Tests.{eqb-false, eqb-true, leb-true, le-leb, lt-leb, lt-ltb, ltb-false, ltb-true}
 use denote.Shadow.{shadow}
-use denote.Struct.Declared.{row}
+use denote.Struct.Declared.{row as row-of}
 use lib.Dec.{eqb, leb, ltb}
 use lib.ListN.{length, getD, List·getD-eq-default}
 use mir.Val.{Val}
-use Rattle.node.specs.declared.Mailbox.{Mailbox}
+use Rattle.node.specs.declared.Cell.{Cell}
+use Rattle.node.specs.declared.Message.{Message}
 use Rattle.node.specs.declared.Node.{Node}
 use Rattle.node.specs.declared.Op.{Op}
 use Rattle.node.specs.declared.Process.{Process}
+use Rattle.node.specs.declared.Signal.{Signal}
+use Rattle.node.specs.declared.Slot.{Slot}
 use Rattle.node.specs.declared.Stage.{Stage}
 use Rattle.node.specs.declared.Stage.the-variants.{Unborn, Live, Closing, Gone}
-use Rattle.node.specs.Lists.{allFrom, allOf}
-use Rattle.node.specs.Nodes.{noMailbox, noOp, noProcess}
+use Rattle.node.specs.Blocks.{blockOf}
+use Rattle.node.specs.Lists.{allFrom, allOf, firsts, rising}
+use Rattle.node.specs.Mailboxes.{messages, noMessage}
+use Rattle.node.specs.Nodes.{flightShelf, mailShelf, noOp, noProcess}
+use Rattle.node.specs.Ops.{clauseOp}
+use Rattle.node.specs.Rows.{noSignal, signals}
+use Rattle.node.specs.Processes.{linksTo}
+use Rattle.node.specs.Values.{isNumber, messageSound, numbers, valueSound}
 use Rattle.node.proofs.Good.{sized-node}
-use Rattle.node.proofs.Lists.{map-rising-at}
+use Rattle.node.proofs.Lists.{allFrom-rising, allOf-append}
+use Rattle.node.proofs.Tests.{within-is}
 use Rattle.node.proofs.Node.{the-type as node-type}
 use Rattle.rules.specs.Behaviours.{Instruction, codeSound, onClause}
-use Rattle.rules.specs.Nodes.{behavioursOf, code, gone, rowSound, runningSound, shaped, sound, standing, standingIn, standingSound, view, viewSound}
+use Rattle.rules.specs.Nodes.{behavioursOf, code, live, rowSound, running, runningSound, setOf, shaped, signalSound, sound, standing, standingIn, standingSound, view, viewSound}
+use Rattle.rules.proofs.All.{allOf-at, parts}
 use Rattle.rules.proofs.Shape.{of-sized}
 use Rattle.behaviours.specs.Codes.{codeIn, codesIn}
 use Rattle.behaviours.proofs.Codes.{code-length, codes-at, codes-length, on-clause-at, on-clause-end}
-use Rattle.soundness.specs.Parts.{flightIn, lengthIn, opPlace, runningTold, standingTold, standingsIn}
+use Rattle.soundness.specs.Parts.{lengthIn, mailCount, placeIn, runningTold, standingTold}
+use Rattle.soundness.proofs.Walk.{Blocks, Due, behind, blockSound}
+
+-- ---- the blocks of a node
+
+-- the process that stands at k, by what the code looks up for it; the op at its place stands at `at`
+abbrev processWith : Node → ℕ → ℕ → Bool
+processWith n k at =
+    let p = getD (n .processes) k noProcess in
+    standingTold (p .stage) (n .count) (lengthIn (n .lens) p) (getD (n .ops) at noOp .number) (k + 1) p
+
+abbrev processAt : Node → ℕ → Bool
+processAt n k = processWith n k (placeIn (getD (n .processes) k noProcess))
+
+pub process-by : (n : Node) (k at : ℕ) {r : Bool} → at ≡ placeIn (getD (n .processes) k noProcess) → r ≡ processWith n k at → r ≡ processAt n k
+process-by n k at e h = h ∙ ap (processWith n k) e
+
+abbrev pub mailBlocks : Node → Blocks Slot Message
+mailBlocks n = record {
+  number = 16;
+  width = 16;
+  cells = n .slots;
+  count = λ k. mailCount (getD (n .processes) k noProcess .stage) (getD (n .waiting) k 0);
+  own = processAt n;
+  test = λ k. messageSound;
+  read = λ s. s .message;
+  blank = noMessage;
+}
+
+abbrev pub rowBlocks : Node → Blocks Cell Signal
+rowBlocks n = record {
+  number = 256;
+  width = 4;
+  cells = n .cells;
+  count = λ k. getD (n .counts) k 0;
+  own = λ k. true;
+  test = λ k. signalSound (k / 16 + 1) (k % 16 + 1);
+  read = λ c. c .signal;
+  blank = noSignal;
+}
 
 -- ---- processes
 
--- an arm of a `match` on the stage of a process
-pub told-in : (c n : ℕ) (clause : Bool) (i : ℕ) (p : Process) (m : Mailbox) {s : Stage} → p .stage ≡ s → {r : Bool} → r ≡ standingTold c n clause i (standingIn s p m) → r ≡ standingTold c n clause i (standing p m)
-unfolding standing
-told-in c n clause i p m e h = h ∙ sym (ap (λ (s : Stage). standingTold c n clause i (standingIn s p m)) e)
+-- the messages of the first w slots of l
+abbrev mail : ℕ → List Slot → List Message
+mail w l = map (λ (s : Slot). s .message) (firsts noMessage w l)
 
-pub standings-length : (ps : List Process) (ms : List Mailbox) → length (standingsIn ps ms) ≡ 16
-unfolding standingsIn
-standings-length ps ms = refl
+-- at the end of n ops, or past it
+end-is : (t n : ℕ) (u : Bool) → eqb t n ≡ u → n ≤ t → leb t n ≡ eqb t n
+end-is t n true e h = rw e (le-leb t n (omega (arith, eqb-true t n e)))
+end-is t n false e h = rw e (lt-leb t n (let d = eqb-false t n e in omega arith))
 
-standings-at : (ps : List Process) (ms : List Mailbox) (k : ℕ) → k < 16 → getD (standingsIn ps ms) k gone ≡ standing (getD ps k noProcess) (getD ms k noMailbox)
-unfolding standingsIn
-standings-at ps ms k h =
-    map-rising-at (λ (i : ℕ). standing (getD ps (i - 1) noProcess) (getD ms (i - 1) noMailbox)) 1 16 k gone h
-    ∙ ap (λ (j : ℕ). standing (getD ps j noProcess) (getD ms j noMailbox)) (omega arith)
+-- the tests of `runningSound`, and then that of the links, in the order of the code
+swap : (p r l m n : Bool) → (p && r && l && m && n) ≡ (r && p && n && (l && m))
+swap false false l m n = refl
+swap false true l m n = refl
+swap true false l m n = refl
+swap true true l m n = and-comm (l && m) n
 
-module _ (c : ℕ) (lens : List ℕ) (ops : List Op) (b : ℕ) where
-  length-is : (t : Bool) → ltb (b - 1) c ≡ t → length (getD (codesIn c lens ops) (b - 1) []) ≡ lengthIn c lens b
-  unfolding lengthIn
-  length-is true e = rw (e, codes-at c lens ops (b - 1) (ltb-true (b - 1) c e)) (code-length (getD lens (b - 1) 0) ops (b - 1))
-  length-is false e =
-      let h : length (codesIn c lens ops) ≤ b - 1 = rw (codes-length c lens ops) (ltb-false (b - 1) c e) in
-      rw e (ap length (List·getD-eq-default (codesIn c lens ops) [] {n = b - 1} h))
+links-is : (p : Process) (i : ℕ) → isNumber i ≡ true → setOf (p .links) i ≡ linksTo p i
+unfolding setOf linksTo
+links-is p i h = rw h
 
-  clause-is : (t : ℕ) (u v : Bool) → length ops ≤ 256 → ltb (b - 1) c ≡ u → ltb t (lengthIn c lens b) ≡ v → onClause (getD (codesIn c lens ops) (b - 1) []) t ≡ eqb (getD ops (opPlace (lengthIn c lens b) b t) noOp .number) 11
-  unfolding opPlace lengthIn
-  clause-is t u false s eu ev =
-      let h : length (getD (codesIn c lens ops) (b - 1) []) ≤ t = rw (length-is u eu) (ltb-false t (lengthIn c lens b) ev) in
-      rw (ev, List·getD-eq-default ops noOp {n = 256} s) (on-clause-end (getD (codesIn c lens ops) (b - 1) []) t h)
-  clause-is t false true s eu ev = let h : t < 0 = ltb-true t 0 (rw eu at ev) in absurd (omega arith)
-  clause-is t true true s eu ev =
-      rw (ev, codes-at c lens ops (b - 1) (ltb-true (b - 1) c eu)) (on-clause-at (getD lens (b - 1) 0) ops (b - 1) t (ltb-true t (getD lens (b - 1) 0) (rw eu at ev)))
+module _ (c : ℕ) (lens : List ℕ) (ops : List Op) (few : c ≤ 8) (all : So (allOf (codeSound c) (codesIn c lens ops))) where
+  abbrev codes : List (List Instruction)
+  codes = codesIn c lens ops
 
--- what the definition looks up, told
-standing-told : (codes : List (List Instruction)) (i : ℕ) (p : Process) (m : Mailbox) (s : Stage) → standingSound codes i (standingIn s p m) ≡ standingTold (length codes) (length (getD codes (p .behaviour .0 - 1) [])) (onClause (getD codes (p .behaviour .0 - 1) []) (p .place)) i (standingIn s p m)
-unfolding runningSound runningTold
-standing-told codes i p m Unborn = refl
-standing-told codes i p m Live = refl
-standing-told codes i p m Closing = refl
-standing-told codes i p m Gone = refl
+  -- process p, whose behaviour the node has
+  module _ (p : Process) (h : (leb 1 (p .behaviour .0) && leb (p .behaviour .0) c) ≡ true) where
+    -- where its behaviour stands among all, and how long it is
+    abbrev b : ℕ
+    b = p .behaviour .0 - 1
 
-process-told : (c : ℕ) (lens : List ℕ) (ops : List Op) (i : ℕ) (p : Process) (m : Mailbox) (at there : ℕ) → length ops ≤ 256 → at ≡ opPlace (lengthIn c lens (p .behaviour .0)) (p .behaviour .0) (p .place) → there ≡ getD ops at noOp .number → standingSound (codesIn c lens ops) i (standing p m) ≡ standingTold c (lengthIn c lens (p .behaviour .0)) (eqb there 11) i (standing p m)
-unfolding standing
-process-told c lens ops i p m at there s ea et =
-    let b = p .behaviour .0 in
-    let codes = codesIn c lens ops in
-    let k : onClause (getD codes (b - 1) []) (p .place) ≡ eqb there 11 =
-    clause-is c lens ops b (p .place) _ _ s refl refl ∙ sym (ap (λ (x : ℕ). eqb x 11) (et ∙ ap (λ (x : ℕ). getD ops x noOp .number) ea)) in
-    standing-told codes i p m (p .stage)
-    ∙ ap (λ (x : ℕ). standingTold x (length (getD codes (b - 1) [])) (onClause (getD codes (b - 1) []) (p .place)) i (standing p m)) (codes-length c lens ops)
-    ∙ ap (λ (x : ℕ). standingTold c x (onClause (getD codes (b - 1) []) (p .place)) i (standing p m)) (length-is c lens ops b _ refl)
-    ∙ ap (λ (x : Bool). standingTold c (lengthIn c lens b) x i (standing p m)) k
+    abbrev n : ℕ
+    n = getD lens b 0
 
--- the op of a place past the end is no op
-pub past-ops : (ops : List Op) (at there : ℕ) → length ops ≤ at → there ≡ 0 → there ≡ getD ops at noOp .number
-past-ops ops at there h e = e ∙ sym (ap (λ (o : Op). o .number) (List·getD-eq-default ops noOp {n = at} h))
+    inside : b < c
+    inside = let g = within-is (p .behaviour .0) 1 c h in omega arith
 
--- process k + 1, by what the code looks up for it
-pub told-at : (c : ℕ) (lens : List ℕ) (ops : List Op) (ps : List Process) (ms : List Mailbox) (k at there : ℕ) → k < 16 → length ops ≤ 256 → at ≡ opPlace (lengthIn c lens (getD ps k noProcess .behaviour .0)) (getD ps k noProcess .behaviour .0) (getD ps k noProcess .place) → there ≡ getD ops at noOp .number → standingSound (codesIn c lens ops) (k + 1) (getD (standingsIn ps ms) k gone) ≡ standingTold c (lengthIn c lens (getD ps k noProcess .behaviour .0)) (eqb there 11) (k + 1) (standing (getD ps k noProcess) (getD ms k noMailbox))
-told-at c lens ops ps ms k at there h s ea et =
-    ap (standingSound (codesIn c lens ops) (k + 1)) (standings-at ps ms k h) ∙ process-told c lens ops (k + 1) (getD ps k noProcess) (getD ms k noMailbox) at there s ea et
+    code-is : getD codes b [] ≡ codeIn n ops b
+    code-is = codes-at c lens ops b inside
+
+    length-is : lengthIn lens p ≡ n
+    length-is = let e : b % 8 ≡ b = mod-eq-of-lt (omega (arith, inside)) in ap (λ (k : ℕ). getD lens k 0) e
+
+    short : n ≤ 32
+    unfolding codeSound
+    short =
+        let g : So (codeSound c (codeIn n ops b)) = rw code-is at (allOf-at (codeSound c) [] codes all b (rw (codes-length c lens ops) inside)) in
+        let k = length (codeIn n ops b) in
+        omega (arith, code-length n ops b, within-is k 1 32 (parts (leb 1 k && leb k 32) _ g .0) .1)
+
+    place-is : (u : Bool) → ltb (p .place) n ≡ u → (leb (p .place) n && not (onClause (codeIn n ops b) (p .place))) ≡ cond u (not (eqb (getD ops (placeIn p) noOp .number) clauseOp)) (eqb (p .place) n)
+    place-is true e =
+        let l = ltb-true (p .place) n e in
+        let i : placeIn p ≡ 32 * b + p .place = mod-eq-of-lt (omega (arith, inside, short)) in
+        rw (le-leb (p .place) n (omega arith), i, on-clause-at n ops b (p .place) l)
+    place-is false e =
+        let l = ltb-false (p .place) n e in
+        rw (on-clause-end (codeIn n ops b) (p .place) (rw (code-length n ops b) l), and-true) (end-is (p .place) n _ refl l)
+
+  -- process p with number i, by what the code looks up for it
+  module _ (i : ℕ) (number : isNumber i ≡ true) (p : Process) where
+    abbrev told : Stage → Bool
+    told s = standingTold s c (lengthIn lens p) (getD ops (placeIn p) noOp .number) i p
+
+    running-told : (m : List Message) (u : Bool) → (leb 1 (p .behaviour .0) && leb (p .behaviour .0) c) ≡ u → standingSound codes i (live (running p m))
+        ≡ (told Live && (leb (length m) 16 && allOf messageSound m))
+    unfolding runningSound runningTold
+    running-told m false e = rw (codes-length c lens ops, e)
+    running-told m true e =
+        rw (codes-length c lens ops, e, code-is p e, code-length (n p e) ops (b p e), length-is p e, place-is p e _ refl, links-is p i number)
+        (swap _ (allOf valueSound (p .r0 ∷ p .r1 ∷ p .r2 ∷ p .r3 ∷ [])) (leb (length m) 16) (allOf messageSound m) (not (linksTo p i)))
+
+    -- what its stage does not hold of the mailbox, the first w slots of l, is not looked at
+    standing-told : (s : Stage) (w : ℕ) (l : List Slot) → standingSound codes i (standingIn s p (mail w l))
+        ≡ (told s && (leb (length (mail (mailCount s w) l)) 16 && allOf messageSound (mail (mailCount s w) l)))
+    standing-told Unborn w l = refl
+    standing-told Live w l = running-told (mail w l) _ refl
+    standing-told Closing w l = rw (links-is p i number) (sym (and-true (valueSound (p .reason) && not (linksTo p i))))
+    standing-told Gone w l = refl
+
+-- ---- rows
+
+-- tests of blocks, one behind the other
+all-blocks : (f : ℕ → Bool) (g : ℕ → List ℕ) (l : List ℕ) → allOf (λ (j : ℕ). allOf f (g j)) l ≡ allOf f (flatMap g l)
+unfolding flatMap
+all-blocks f g [] = refl
+all-blocks f g (j ∷ l) = ap (λ (b : Bool). allOf f (g j) && b) (all-blocks f g l) ∙ sym (allOf-append f (g j) (flatMap g l))
 
 -- ---- the node
 
--- a node that code holds has its arrays in full
-pub shaped-node : (n : Node) {vs : List Val} → shadow (row node-type .own n vs) → So (shaped n)
-shaped-node n g =
-    let z = sized-node n g in
-    of-sized n (record { lens = z .lens; ops = z .ops; processes = z .processes; mail = z .mail; slots = z .slots; flight = z .flight; cells = z .cells })
+-- tests that agree on each of the numbers
+rising-same : (f g : ℕ → Bool) (i n : ℕ) → ((k : ℕ) → k < i + n → f k ≡ g k) → allOf f (rising i n) ≡ allOf g (rising i n)
+rising-same f g i zero h = refl
+rising-same f g i (suc n) h = λ j. h i (omega arith) j && rising-same f g (i + 1) n (λ k l. h k (omega arith)) j
 
-pub sound-by : (n : Node) → So (shaped n) → sound n ≡ (leb 1 (n .count) && leb (n .count) 8 && allOf (codeSound (n .count)) (codesIn (n .count) (n .lens) (n .ops)) && allFrom (standingSound (codesIn (n .count) (n .lens) (n .ops))) 1 (standingsIn (n .processes) (n .mail)) && allFrom (λ j rows. allFrom (rowSound j) 1 rows) 1 (flightIn (n .flight)))
-unfolding sound viewSound view behavioursOf code codesIn codeIn standingsIn flightIn
-sound-by n h = rw (h, codes-length (n .count) (n .lens) (n .ops), and-true)
+module _ (n : Node) where
+  abbrev pub behavioursSound : Bool
+  behavioursSound = leb 1 (n .count) && leb (n .count) 8 && allOf (codeSound (n .count)) (codesIn (n .count) (n .lens) (n .ops))
+
+  -- a node that code holds has its arrays in full
+  pub shaped-node : {vs : List Val} → shadow (row-of node-type .own n vs) → So (shaped n)
+  shaped-node g =
+      let z = sized-node n g in
+      of-sized n (record {
+        lens = z .lens;
+        ops = z .ops;
+        processes = z .processes;
+        mail = record { cells = z .slots; counts = z .waiting };
+        flight = record { cells = z .cells; counts = z .counts };
+      })
+
+  -- `sound`, part by part; a node that is shaped has nothing else to pass
+  sound-is : So (shaped n) → sound n ≡ (behavioursSound && allFrom (standingSound (behavioursOf n)) 1 (view n .processes) && allFrom (λ j rows. allFrom (rowSound j) 1 rows) 1 (view n .flight))
+  unfolding sound viewSound view behavioursOf code codesIn codeIn
+  sound-is h = ap (λ (s : Bool). viewSound (view n) && s) h ∙ and-true (viewSound (view n)) ∙ rw (codes-length (n .count) (n .lens) (n .ops))
+
+  -- sixteen rows to a sender are the 256 rows: both sides compute to the same tests
+  rows-due : allFrom (λ j rows. allFrom (rowSound j) 1 rows) 1 (view n .flight) ≡ behind (rowBlocks n) 0
+  unfolding view blockSound rowSound signals flatMap
+  rows-due = all-blocks (blockSound (rowBlocks n)) (λ (j : ℕ). rising (16 * (j - 1)) 16) numbers
+
+  module _ (e : behavioursSound ≡ true) where
+    both-are : So (leb 1 (n .count) && leb (n .count) 8) × So (allOf (codeSound (n .count)) (codesIn (n .count) (n .lens) (n .ops)))
+    both-are = parts _ (allOf (codeSound (n .count)) (codesIn (n .count) (n .lens) (n .ops))) e
+
+    process-due : (k : ℕ) → k < 16 → standingSound (behavioursOf n) (k + 1) (standing (getD (n .processes) k noProcess) (messages (blockOf 16 k (mailShelf n)))) ≡ blockSound (mailBlocks n) k
+    unfolding standing messages blockSound behavioursOf code codesIn codeIn isNumber
+    process-due k h =
+        let p = getD (n .processes) k noProcess in
+        let i : isNumber (k + 1) ≡ true = rw (le-leb 1 (k + 1) (omega arith), le-leb (k + 1) 16 (omega arith)) in
+        standing-told (n .count) (n .lens) (n .ops) (within-is (n .count) 1 8 (both-are .0) .1) (both-are .1) (k + 1) i p (p .stage) _ _
+
+    processes-due : allFrom (standingSound (behavioursOf n)) 1 (view n .processes) ≡ behind (mailBlocks n) 0
+    unfolding view
+    processes-due = rising-same _ (blockSound (mailBlocks n)) 0 16 process-due
+
+    pub sound-due : So (shaped n) → Due (mailBlocks n) (behind (rowBlocks n) 0 && true) (sound n) 0
+    sound-due h = record { gives = sound-is h ∙ rw (e, processes-due, rows-due, and-true (behind (rowBlocks n) 0)) }
+
+  pub sound-not : So (shaped n) → behavioursSound ≡ false → false ≡ sound n
+  sound-not h e = sym (sound-is h ∙ rw e)

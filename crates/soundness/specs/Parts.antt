@@ -1,46 +1,43 @@
--- What the code reads of the processes, mailboxes and rows of a node, in the words of `sound` (crate `rules`): so a function that is
--- handed a part of a node says what it answers. For the arrays of one node these are the parts of its view.
---   standingsIn ps ms           the processes in their stages
---   flightIn rows               the rows in flight
---   lengthIn c lens b           the length of behaviour b
---   opPlace n b t               where the op at place t of behaviour b, of n ops, stands; 256 where there is none
---   runningTold, standingTold   `runningSound` and `standingSound`, by what they look up: how many behaviours there are, how long the
---                               process's own is, and whether its place is on a clause
+-- What the code reads of a process, in the words of `sound` (crate `rules`): so a function that is handed a part of a node says what it answers.
+--   lengthIn lens p placeIn p    how long the behaviour of process p is, and where the op at its place stands; what is no behaviour or no place wraps
+--   runningTold standingTold     `runningSound` and `standingSound`, but for the mailbox, by what they look up: how many behaviours there are, how long
+--                                the process's own is, and the number of the op at its place
+--   mailCount s n                how many of the n messages that a mailbox counts stage s holds
 use mathlib.Core.Bool.{Bool, true, _&&_, not, cond}
-use mathlib.Core.List.{List, map}
-use Prim.Native.Nat.{ℕ, _+_, _-_, _*_}
-use lib.Dec.{leb, ltb}
-use lib.ListN.{length, getD}
-use Rattle.node.specs.declared.Mailbox.{Mailbox}
+use mathlib.Core.List.{List, [], _∷_}
+use Prim.Native.Nat.{ℕ, _+_, _-_, _*_, _%_}
+use lib.Dec.{eqb, leb, ltb}
+use lib.ListN.{getD}
 use Rattle.node.specs.declared.Process.{Process}
-use Rattle.node.specs.declared.Row.{Row}
-use Rattle.node.specs.declared.Signal.{Signal}
+use Rattle.node.specs.declared.Stage.{Stage}
+use Rattle.node.specs.declared.Stage.the-variants.{Unborn, Live, Closing, Gone}
 use Rattle.node.specs.Lists.{allOf}
-use Rattle.node.specs.Nodes.{noMailbox, noProcess, noRow, pair}
-use Rattle.node.specs.Rows.{signals}
-use Rattle.rules.specs.Nodes.{Running, Standing, unborn, live, closing, gone, standing}
-use Rattle.node.specs.Values.{messageSound, numbers, valueSound}
+use Rattle.node.specs.Ops.{clauseOp}
+use Rattle.node.specs.Processes.{linksTo}
+use Rattle.node.specs.Values.{valueSound}
 
-unfoldable pub standingsIn : List Process → List Mailbox → List Standing
-standingsIn ps ms = map (λ i. standing (getD ps (i - 1) noProcess) (getD ms (i - 1) noMailbox)) numbers
+abbrev pub lengthIn : List ℕ → Process → ℕ
+lengthIn lens p = getD lens ((p .behaviour .0 - 1) % 8) 0
 
-unfoldable pub flightIn : List Row → List (List (List Signal))
-flightIn rows = map (λ j. map (λ i. signals (getD rows (pair j i) noRow)) numbers) numbers
+abbrev pub placeIn : Process → ℕ
+placeIn p = (32 * (p .behaviour .0 - 1) + p .place) % 256
 
-unfoldable pub lengthIn : ℕ → List ℕ → ℕ → ℕ
-lengthIn c lens b = cond (ltb (b - 1) c) (getD lens (b - 1) 0) 0
+-- a place is before the end of its behaviour, on an op that is no clause, or it is the end
+unfoldable pub runningTold : ℕ → ℕ → ℕ → Process → Bool
+runningTold c n there p =
+    leb 1 (p .behaviour .0) && leb (p .behaviour .0) c
+    && allOf valueSound (p .r0 ∷ p .r1 ∷ p .r2 ∷ p .r3 ∷ [])
+    && cond (ltb (p .place) n) (not (eqb there clauseOp)) (eqb (p .place) n)
 
-unfoldable pub opPlace : ℕ → ℕ → ℕ → ℕ
-opPlace n b t = cond (ltb t n) (32 * (b - 1) + t) 256
+abbrev pub standingTold : Stage → ℕ → ℕ → ℕ → ℕ → Process → Bool
+standingTold Unborn c n there i p = true
+standingTold Live c n there i p = runningTold c n there p && not (linksTo p i)
+standingTold Closing c n there i p = valueSound (p .reason) && not (linksTo p i)
+standingTold Gone c n there i p = true
 
-unfoldable pub runningTold : ℕ → ℕ → Bool → Running → Bool
-runningTold c n clause r =
-    leb 1 (r .behaviour) && leb (r .behaviour) c && leb (r .place) n && not clause
-    && allOf valueSound (r .registers)
-    && leb (length (r .mail)) 16 && allOf messageSound (r .mail)
-
-abbrev pub standingTold : ℕ → ℕ → Bool → ℕ → Standing → Bool
-standingTold c n clause i unborn = true
-standingTold c n clause i (live r) = runningTold c n clause r && not (r .links i)
-standingTold c n clause i (closing v links) = valueSound v && not (links i)
-standingTold c n clause i gone = true
+-- "live: .. mailbox": the other stages hold none
+abbrev pub mailCount : Stage → ℕ → ℕ
+mailCount Unborn n = 0
+mailCount Live n = n
+mailCount Closing n = 0
+mailCount Gone n = 0

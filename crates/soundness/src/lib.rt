@@ -1,11 +1,10 @@
-// Whether a node is sound (well-formed). What a call takes by value is copied: behaviours and processes are passed once, and the rows in
-// flight, which take 17 KB, are read in place.
+// Whether a node is sound (well-formed). What a call takes by value is copied, so mailboxes and rows in flight are read where they stand in
+// the one node that `sound` has: what they hold is looked at by calls on a single message or signal.
 ghost use mathlib.Core.Path.{_≡_};
 ghost use Rattle.rules.specs.Nodes.{sound};
 use node::Node;
 use node::ProcessNumber;
 
-mod flight;
 mod processes;
 mod values;
 
@@ -18,21 +17,46 @@ pub fn sound(n: Node) -> bool
     if !behaviours::behaviours_sound(count, lens, ops) {
         return false;
     }
-    let processes = n.processes;
-    let mail = n.mail;
-    if !processes::processes_sound(count, lens, ops, processes, mail) {
-        return false;
+    let mut i: usize = 0;
+    while i < 16 {
+        let p = n.processes[i];
+        let at = processes::place_index(p);
+        let there = n.ops[at].number;
+        let number = (i + 1) as u8;
+        if !processes::process_sound(ProcessNumber(number), p, count, lens, there) {
+            return false;
+        }
+        let waiting = processes::mail_count(p, n.waiting[i]);
+        if 16 < waiting {
+            return false;
+        }
+        let mut m: u8 = 0;
+        while m < waiting {
+            let slot = n.slots[16 * i + (m as usize)];
+            let x = slot.message;
+            if !values::message_sound(x) {
+                return false;
+            }
+            m += 1;
+        }
+        i += 1;
     }
     let mut k: usize = 0;
     while k < 256 {
-        // an empty row is sound, and most rows are empty
-        if n.flight[k].count != 0 {
-            let row = n.flight[k];
-            let from = (k / 16 + 1) as u8;
-            let to = (k % 16 + 1) as u8;
-            if !flight::row_sound(ProcessNumber(from), ProcessNumber(to), row) {
+        let held = n.counts[k];
+        if 4 < held {
+            return false;
+        }
+        let from = (k / 16 + 1) as u8;
+        let to = (k % 16 + 1) as u8;
+        let mut m: u8 = 0;
+        while m < held {
+            let cell = n.cells[4 * k + (m as usize)];
+            let x = cell.signal;
+            if !values::signal_sound(ProcessNumber(from), ProcessNumber(to), x) {
                 return false;
             }
+            m += 1;
         }
         k += 1;
     }

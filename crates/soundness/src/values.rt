@@ -1,15 +1,13 @@
-// Messages, registers and mailboxes within their limits.
-ghost use mathlib.Core.Bool.{_&&_};
+// Messages, signals and registers within their limits.
 ghost use mathlib.Core.List.{[], _∷_};
 ghost use mathlib.Core.Path.{_≡_};
-ghost use lib.Dec.{leb};
-ghost use lib.ListN.{length};
 ghost use Rattle.node.specs.Lists.{allOf};
-ghost use Rattle.node.specs.Mailboxes.{messages};
 ghost use Rattle.node.specs.Values.{messageSound, valueSound};
-use node::Mailbox;
+ghost use Rattle.rules.specs.Nodes.{signalSound};
 use node::Message;
 use node::Process;
+use node::ProcessNumber;
+use node::Signal;
 use node::is_number;
 use node::value_sound;
 
@@ -25,6 +23,18 @@ pub fn message_sound(m: Message) -> bool
             }
             value_sound(v)
         }
+    }
+}
+
+// A signal from process j to process i.
+pub fn signal_sound(j: ProcessNumber, i: ProcessNumber, x: Signal) -> bool
+    ensures { λ r. ⌜ r ≡ signalSound (j .0) (i .0) x ⌝ }
+{
+    match x {
+        Signal::Msg(v) => value_sound(v),
+        Signal::Exit(v, _) => value_sound(v),
+        Signal::Link => j.0 != i.0,
+        Signal::Unlink => j.0 != i.0,
     }
 }
 
@@ -45,24 +55,4 @@ pub fn registers_sound(p: Process) -> bool
         return false;
     }
     value_sound(d)
-}
-
-pub fn mailbox_sound(m: Mailbox) -> bool
-    ensures { λ r. ⌜ r ≡ (leb (length (messages m)) 16 && allOf messageSound (messages m)) ⌝ }
-{
-    let count = m.count;
-    if 16 < count {
-        return false;
-    }
-    let n = count as usize;
-    let mut i: usize = 0;
-    while i < n {
-        let slot = m.slots[i];
-        let x = slot.message;
-        if !message_sound(x) {
-            return false;
-        }
-        i += 1;
-    }
-    true
 }

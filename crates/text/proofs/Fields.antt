@@ -1,18 +1,16 @@
--- Laws of the fields of a line and of a table of words: what a loop over fields knows at each turn. Assumes nothing.
+-- Laws of the fields of a line: what a loop over fields knows at each turn. Assumes nothing.
 --   fields-at fields-end fields-first   the fields from a place on
 --   field-here field-next field-none    the turns of `field`
---   index-here index-next index-none    the turns of `word_index`
 --   count-comma count-other count-end   the turns of `count_fields`
-use mathlib.Core.Bool.{Bool, true, false}
 use mathlib.Core.List.{List, [], _∷_}
-use mathlib.Core.Path.{_≡_, sym, ap, _∙_}
+use mathlib.Core.Path.{_≡_}
 use Prim.Native.Nat.{ℕ, suc, _+_, _-_, _≤_, _<_}
 use Prim.Native.Char.{code}
 use native.Mathlib.Omega.{arith}
 use borrow.Author.Tests.{eq-eqb, ne-eqb}
 use lib.ListN.{length, take, drop, getD, drop-of-length-le}
-use Rattle.text.specs.Parts.{placeFrom, inFront, split, fieldsOf, equal, indexOf}
-use Rattle.text.proofs.Parts.{drop-at, split-some, split-at, split-end, split-first, rest-part}
+use Rattle.text.specs.Parts.{placeFrom, inFront, split, fieldsOf}
+use Rattle.text.proofs.Parts.{drop-at, split-some, split-at, split-end, split-first}
 
 module _ (s : List ℕ) {at e : ℕ} (w : at ≤ length s) (h : e ≡ placeFrom (code ",") at s) where
   pub fields-at : e < length s → fieldsOf (drop at s) ≡ take (e - at) (drop at s) ∷ fieldsOf (drop (e + 1) s)
@@ -37,24 +35,6 @@ module _ (s : List ℕ) {at e : ℕ} (w : at ≤ length s) (h : e ≡ placeFrom 
 
     pub field-none : n < k → length s ≤ e → [] ≡ g
     field-none l m = let z : k - n ≡ suc (k - (n + 1)) = omega arith in rw (fields-end m, z) at i
-
-  -- ---- the index of a word, after n words
-  module _ (word : List ℕ) (n : ℕ) {g : ℕ} (i : n + indexOf word (fieldsOf (drop at s)) ≡ g)
-      {t : Bool} (is : t ≡ equal (take (e - at) (drop at s)) word) where
-    pub index-here : t ≡ true → n ≡ g
-    unfolding indexOf
-    index-here y = let q = fields-first in let z : indexOf word (fieldsOf (drop at s)) ≡ 0 = rw (q .1, ← is, y) in omega arith
-
-    pub index-next : t ≡ false → e < length s → n + 1 + indexOf word (fieldsOf (drop (e + 1) s)) ≡ g
-    unfolding indexOf
-    index-next y l = let z : indexOf word (fieldsOf (drop at s)) ≡ suc (indexOf word (fieldsOf (drop (e + 1) s))) = rw (fields-at l, ← is, y) in omega arith
-
-    pub index-none : t ≡ false → length s ≤ e → n + 1 ≡ g
-    unfolding indexOf
-    index-none y l =
-        let f : equal (drop at s) word ≡ false = ap (λ (p : List ℕ). equal p word) (sym (rest-part (code ",") s w h l)) ∙ sym is ∙ y in
-        let z : indexOf word (fieldsOf (drop at s)) ≡ 1 = rw (fields-end l, f) in
-        omega arith
 
 -- ---- how many fields there are, by the commas before k
 module _ (s : List ℕ) (k n : ℕ) {g : ℕ} (i : n + length (fieldsOf (drop k s)) ≡ suc g) where

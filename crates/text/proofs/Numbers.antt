@@ -14,7 +14,8 @@ use Rattle.rules.specs.Answers.{Answer}
 use Rattle.text.specs.declared.Number.the-variants as number
 use Rattle.text.specs.declared.Number.{Number}
 use Rattle.text.specs.declared.Ranged.{Ranged}
-use Rattle.text.specs.Numbers.{isDigit, unsignedForm, negative, unsigned, numberForm, digitValue, decimal, numberValue, ceiling, malformed, outOfRange, Signed, signedOf, numberOf, noNumber, rangedOf}
+use Rattle.text.specs.Numbers.{isDigit, unsignedForm, negative, unsigned, numberForm, digitValue, decimal, numberValue, ceiling, malformed, outOfRange, Signed, signedOf, numberOf}
+use Rattle.text.specs.Numbers.{noNumber, rangedOf}
 use Rattle.text.specs.Parts.{equal, startsWith}
 use Rattle.text.proofs.Parts.{drop-at, tail-part}
 

@@ -1,7 +1,8 @@
 -- Laws of places, lines and words: what a loop over a text knows at a place of it. Assumes nothing.
---   drop-at tail-part           the text from a place on; a slice with no end
+--   drop-next drop-at           a list and a text from a place on;  tail-part  a slice with no end
 --   place-after place-inside    where `find` answers
---   place-hit place-miss place-none   the turns of `find`
+--   before-hit before-miss      how many bytes stand before the next c, by the byte at a place
+--   place-hit place-miss place-none   the turns of `find`;  place-near place-skip  those of `line_end`
 --   split-at split-end split-first    the parts from a place on, up to the next byte c and behind it
 --   lines-at lines-rest lines-none    the lines from a place on: a line and those behind it, a line without byte 10, nothing
 --   lines-few                   a text has no more whole lines than bytes
@@ -11,7 +12,7 @@ use mathlib.Core.Bool.{Bool, true, false, _&&_, cond}
 use mathlib.Core.List.{List, [], _∷_}
 use mathlib.Core.Logic.{⊎-elim}
 use mathlib.Core.Path.{_≡_, refl, sym, ap, _∙_}
-use Prim.Native.Nat.{ℕ, suc, _+_, _-_, _≤_, _<_}
+use Prim.Native.Nat.{ℕ, zero, suc, _+_, _-_, _≤_, _<_, min}
 use Prim.Native.Char.{code}
 use native.Mathlib.Nat.{eq-or-lt-of-le}
 use native.Mathlib.Numerals.{add-one}
@@ -22,9 +23,12 @@ use lib.ListN.{length, take, drop, getD, length-take, length-drop, drop-of-lengt
 use lib.Seq.{drop-cons, drop-drop, take-all}
 use Rattle.text.specs.Parts.{before, placeFrom, inFront, split, lineThen, lastApart, linesOf, equal, startsWith}
 
--- the text from a place within it on
+-- a list from a place within it on
+pub drop-next : {X : Type 0} (xs : List X) (k : ℕ) (d : X) → k < length xs → drop k xs ≡ getD xs k d ∷ drop (k + 1) xs
+drop-next xs k d h = rw add-one (drop-cons xs k d h)
+
 pub drop-at : (s : List ℕ) (k : ℕ) → k < length s → drop k s ≡ getD s k 0 ∷ drop (k + 1) s
-drop-at s k h = rw (add-one, drop-cons s k 0 h)
+drop-at s k h = drop-next s k 0 h
 
 -- the part from k to the end, as a slice without an end gives it
 pub tail-part : (l : List ℕ) (k : ℕ) → take (length l - k) (drop k l) ≡ drop k l
@@ -48,14 +52,47 @@ pub place-from : (c n : ℕ) (l : List ℕ) → n ≤ length l → placeFrom c n
 unfolding placeFrom
 place-from c n l h = omega (arith, before-within c (drop n l), length-drop n l)
 
+-- the bytes from k on, by the one at k
+module _ (c : ℕ) (s : List ℕ) (k : ℕ) (h : k < length s) where
+  pub before-hit : getD s k 0 ≡ c → before c (drop k s) ≡ 0
+  unfolding before
+  before-hit e = rw (drop-at s k h, eq-eqb _ _ e)
+
+  pub before-miss : {j : ℕ} → j ≡ k + 1 → (getD s k 0 ≡ c → ⊥) → before c (drop k s) ≡ suc (before c (drop j s))
+  unfolding before
+  before-miss q e = rw (drop-at s k h, ne-eqb _ _ e, q)
+
+-- the first n bytes, none of which is c
+before-skip : (c : ℕ) (l : List ℕ) (n : ℕ) → n ≤ before c l → before c l ≡ n + before c (drop n l)
+unfolding before
+before-skip c l zero h = omega arith
+before-skip c [] (suc n) h = let no : ⊥ = omega arith in absurd no
+before-skip c (b ∷ l) (suc n) h = go (eqb b c) h (before-skip c l n)
+  where
+    go : (t : Bool) → suc n ≤ cond t 0 (suc (before c l)) → (n ≤ before c l → before c l ≡ n + before c (drop n l))
+        → cond t 0 (suc (before c l)) ≡ suc n + before c (drop n l)
+    go true h ih = let no : ⊥ = omega arith in absurd no
+    go false h ih = omega (arith, ih (omega arith))
+
 module _ (c n : ℕ) (s : List ℕ) (k : ℕ) (i : k + before c (drop k s) ≡ n + before c (drop n s)) where
   pub place-hit : k < length s → getD s k 0 ≡ c → k ≡ placeFrom c n s
-  unfolding placeFrom before
-  place-hit h e = let z : before c (drop k s) ≡ 0 = rw (drop-at s k h, eq-eqb _ _ e) in omega arith
+  unfolding placeFrom
+  place-hit h e = omega (arith, i, before-hit c s k h e)
 
   pub place-miss : k < length s → (getD s k 0 ≡ c → ⊥) → k + 1 + before c (drop (k + 1) s) ≡ n + before c (drop n s)
-  unfolding before
-  place-miss h e = let z : before c (drop k s) ≡ suc (before c (drop (k + 1) s)) = rw (drop-at s k h, ne-eqb _ _ e) in omega arith
+  place-miss h e = omega (arith, i, before-miss c s k h {j = k + 1} refl e)
+
+  -- j bytes from k on that are not c, and the byte behind them
+  module _ {j m : ℕ} (q : m ≡ min (before c (drop k s)) j) where
+    pub place-near : k < length s → m < j → k + m ≡ placeFrom c n s
+    unfolding placeFrom
+    place-near h l = omega (arith, i, q, before-within c (drop k s), length-drop k s)
+
+    pub place-skip : j ≤ m → k + j + before c (drop (k + j) s) ≡ n + before c (drop n s)
+    place-skip l =
+        let skip : before c (drop k s) ≡ j + before c (drop j (drop k s)) = before-skip c (drop k s) j (omega (arith, q)) in
+        let same : before c (drop j (drop k s)) ≡ before c (drop (k + j) s) = ap (before c) (drop-drop j k s) in
+        omega (arith, i, skip, same)
 
   pub place-none : length s ≤ k → length s ≡ placeFrom c n s
   unfolding placeFrom before

@@ -1,22 +1,23 @@
 -- Laws of writing: texts written one after another, and what is left to write in a loop. Assumes nothing.
---   wrote-then _▸_    two texts, one behind the other;  wrote-as  a text under another name
+--   wrote-then _▸_    two texts, one behind the other
+--   wrote-as wrote-none   a text under another name, and nothing written
 --   wrote-length      a buffer keeps its length
 --   wrote-whole       a text that fits, written at the start
 --   counted-short counted-fits counted-length   what the place behind a text says of its length
---   Left              what a loop still has to write; left-all at its start, left-more at each turn, left-none at its end
+--   Left              what a loop still has to write; left-all at its start, left-behind where it starts behind a text, left-more at each
+--                     turn, left-none at its end
 --   left-byte left-bytes-end     the same for a loop over the bytes of a text
---   left-item left-end           the same for a loop over the elements of a list
+--   left-item left-end           the same for a loop over the elements of a list;  left-skip  an element without text
 use mathlib.Core.List.{List, [], _∷_, _++_}
 use mathlib.Core.Logic.{⊎-elim}
 use mathlib.Core.Path.{_≡_, refl, sym, ap, _∙_}
 use Prim.Native.Nat.{ℕ, suc, _+_, _≤_, _<_, min}
 use native.Mathlib.Nat.{add-zero, zero-add, add-suc, suc-add, eq-or-lt-of-le, min-le-right}
-use native.Mathlib.Numerals.{add-one}
 use native.Mathlib.Omega.{arith}
 use lib.ListN.{length, set, drop, getD, length-append, length-set, drop-of-length-le}
-use lib.Seq.{sets, length-sets, set-out, sets-eq, drop-cons}
+use lib.Seq.{sets, length-sets, set-out, sets-eq}
 use Rattle.text.specs.Writing.{top, Wrote, each}
-use Rattle.text.proofs.Parts.{drop-at}
+use Rattle.text.proofs.Parts.{drop-next, drop-at}
 
 pub sets-append : (l : List ℕ) (i : ℕ) (s t : List ℕ) → sets l i (s ++ t) ≡ sets (sets l i s) (i + length s) t
 sets-append l i [] t = ap (λ (k : ℕ). sets l k t) (sym (add-zero i))
@@ -79,6 +80,9 @@ pub record Left (old : List ℕ) (at : ℕ) (text now : List ℕ) (e : ℕ) (res
 pub left-all : (o : List ℕ) (a : ℕ) (text : List ℕ) → length o ≤ top → a ≤ top → Left o a text o a text
 left-all o a text h w = record { bytes = refl; place = refl; same = refl; short = h; held = w }
 
+pub left-behind : {o s m : List ℕ} {a e : ℕ} (text : List ℕ) → Wrote o a s m e → Left m e text m e text
+left-behind {m = m} {e = e} text q = left-all m e text (omega (arith, wrote-length q, q .short)) (omega (arith, q .place))
+
 pub left-more : {o text m t rest n : List ℕ} {a e r : ℕ} → Left o a text m e (t ++ rest) → Wrote m e t n r → Left o a text n r rest
 left-more {o} {text} {m} {t} {rest} {n} {a} {e} {r} p q = record {
   bytes =
@@ -93,6 +97,9 @@ left-more {o} {text} {m} {t} {rest} {n} {a} {e} {r} p q = record {
 pub left-none : {o text m : List ℕ} {a e : ℕ} → Left o a text m e [] → Wrote o a text m e
 left-none {o} {text} {m} {a} {e} p = record { bytes = p .bytes; place = omega (arith, p .place, p .held); short = p .short }
 
+pub wrote-none : (o : List ℕ) (a : ℕ) → length o ≤ top → a ≤ top → Wrote o a [] o a
+wrote-none o a h w = left-none (left-all o a [] h w)
+
 -- ---- a loop that writes the bytes of a text, one at a turn
 module _ (s : List ℕ) (k : ℕ) {o text m : List ℕ} {a e : ℕ} (p : Left o a text m e (drop k s)) where
   pub left-byte : {n : List ℕ} {r : ℕ} → k < length s → Wrote m e (getD s k 0 ∷ []) n r → Left o a text n r (drop (k + 1) s)
@@ -105,7 +112,12 @@ module _ (s : List ℕ) (k : ℕ) {o text m : List ℕ} {a e : ℕ} (p : Left o 
 module _ {X : Type 0} (f : X → List ℕ) (xs : List X) (k : ℕ) {o text m : List ℕ} {a e : ℕ} (p : Left o a text m e (each f (drop k xs))) where
   pub left-item : (d : X) {u : List ℕ} {r : ℕ} → k < length xs → Wrote m e (f (getD xs k d)) u r → Left o a text u r (each f (drop (k + 1) xs))
   unfolding each
-  left-item d h q = rw add-one (left-more (rw (drop-cons xs k d h) at p) q)
+  left-item d h q = left-more (rw (drop-next xs k d h) at p) q
+
+  -- an element without text
+  pub left-skip : (d : X) → k < length xs → f (getD xs k d) ≡ [] → Left o a text m e (each f (drop (k + 1) xs))
+  unfolding each
+  left-skip d h is = rw (drop-next xs k d h, is) at p
 
   pub left-end : length xs ≤ k → Wrote o a text m e
   unfolding each

@@ -1,4 +1,5 @@
 -- Parts of a text, which is a list of bytes: places, lines, fields and words.
+--   lineByte          the byte that ends each line
 --   before c l        how many bytes of l stand before its first c; all of them, where it has no c
 --   placeFrom c n l   the first place of c in l at or after place n; the length of l, where there is none
 --   inFront t b ps    parts with a byte b in front, which is a cut where t holds
@@ -17,6 +18,9 @@ use Prim.Native.Nat.{ℕ, suc, _+_, min}
 use Prim.Native.Char.{code}
 use lib.Dec.{eqb}
 use lib.ListN.{length, take, drop}
+
+abbrev pub lineByte : ℕ
+lineByte = code "\n"
 
 unfoldable pub before : ℕ → List ℕ → ℕ
 before c [] = 0
@@ -50,7 +54,7 @@ lastApart (p ∷ []) = record { whole = []; rest = p }
 lastApart (p ∷ q ∷ ps) = lineThen p (lastApart (q ∷ ps))
 
 unfoldable pub linesOf : List ℕ → Lines
-linesOf text = lastApart (split (code "\n") text)
+linesOf text = lastApart (split lineByte text)
 
 unfoldable pub equal : List ℕ → List ℕ → Bool
 equal [] [] = true

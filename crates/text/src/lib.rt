@@ -4,11 +4,11 @@ use node::ProcessNumber;
 use node::Value;
 ghost use mathlib.Core.Path.{_≡_};
 ghost use mathlib.Core.List.{[], _∷_};
-ghost use Prim.Native.Nat.{_+_, _*_, min};
+ghost use Prim.Native.Nat.{_+_, _*_, _<_, min};
 ghost use lib.IntN.{natAbs};
-ghost use lib.ListN.{length, getD};
+ghost use lib.ListN.{length, getD, drop};
 ghost use Rattle.node.specs.Lists.{allOf};
-ghost use Rattle.text.specs.Parts.{placeFrom, fieldsOf, indexOf, equal, startsWith};
+ghost use Rattle.text.specs.Parts.{lineByte, before, placeFrom, fieldsOf, equal, startsWith};
 ghost use Rattle.text.specs.Numbers.{isDigit, unsignedForm, digitValue, decimal, ceiling, signedOf, numberOf, noNumber, rangedOf};
 ghost use Rattle.text.specs.Values.{noValue, plusOf, minusOf, intOf, valueOf, letterOf, valueText};
 ghost use Rattle.text.specs.Writing.{Wrote, digits, intText, numberLine};
@@ -56,6 +56,45 @@ pub fn find(s: &[u8], from: usize, byte: u8) -> usize
         k += 1;
     }
     s.len()
+}
+
+// The end of the line that begins at `from`: the first place of byte 10 at or after it, the length where there is none. Lines are longer
+// than fields, so that four bytes a turn pay.
+pub fn line_end(s: &[u8], from: usize) -> usize
+    ensures { λ r. ⌜ r ≡ placeFrom lineByte from (now (s .entry)) ⌝ }
+{
+    let mut k = from;
+    while k < s.len() {
+        let n = clear(s, k);
+        if n < 4 {
+            return k + n;
+        }
+        k += 4;
+    }
+    s.len()
+}
+
+// How many bytes from k on stand before a byte 10 or the end, up to four.
+fn clear(s: &[u8], k: usize) -> usize
+    requires { ⌜ k < length (now s) ⌝ }
+    ensures { λ r. ⌜ r ≡ min (before lineByte (drop k (now (s .entry)))) 4 ⌝ }
+{
+    if s.len() - k < 4 {
+        return find(s, k, b'\n') - k;
+    }
+    if s[k] == b'\n' {
+        return 0;
+    }
+    if s[k + 1] == b'\n' {
+        return 1;
+    }
+    if s[k + 2] == b'\n' {
+        return 2;
+    }
+    if s[k + 3] == b'\n' {
+        return 3;
+    }
+    4
 }
 
 // Whether a text is a word.
@@ -117,25 +156,6 @@ pub fn count_fields(line: &[u8]) -> usize
         k += 1;
     }
     n
-}
-
-// Which field of a table of words `word` is, from 0; the number of fields where it is none.
-pub fn word_index(table: &[u8], word: &[u8]) -> usize
-    ensures { λ r. ⌜ r ≡ indexOf (now (word .entry)) (fieldsOf (now (table .entry))) ⌝ }
-{
-    let mut at = 0;
-    let mut n = 0;
-    loop {
-        let e = find(table, at, b',');
-        if same(&table[at..e], word) {
-            return n;
-        }
-        if table.len() <= e {
-            return n + 1;
-        }
-        at = e + 1;
-        n += 1;
-    }
 }
 
 // A number of any length, with or without a minus.

@@ -102,11 +102,13 @@ returns-4 : tie.Need-returns-4 Inv-loop μ-loop
 returns-4 c =
     let a = c .before .before .before .before .before .before .before .before .before .before .before .before .args in
     let l = c .before .before .before .before .before .before .before .before .before .loop in
-    let w = passed (c .before .before .before .before .before .before .before .before .before .before .before .within .ensures) (c .before .before .before .before .before .before .before .before .before .before .if1 .left) in
+    let w = passed (c .before .before .before .before .before .before .before .before .before .before .before .within .ensures)
+    (c .before .before .before .before .before .before .before .before .before .before .if1 .left) in
     let n = getD (a .t2) (l .b) 0 in
     let s = passed (c .before .before .before .before .before .before .before .within2 .ensures) (c .before .before .before .before .before .before .if2 .left) in
     let size = within-is n 1 32 s in
-    let barred = sym (lands-at n (a .t3) (l .b) (getD (a .t3) (32 * l .b + l .t) noOp) (c .before .before .landing .ensures) (c .before .if4 .taken) refl) ∙ ap not (eq-eqb _ clauseOp (c .if5 .taken)) in
+    let barred = sym (lands-at n (a .t3) (l .b) (getD (a .t3) (32 * l .b + l .t) noOp) (c .before .before .landing .ensures) (c .before .if4 .taken) refl)
+    ∙ ap not (eq-eqb _ clauseOp (c .if5 .taken)) in
     rw w (op-barred (a .count) (a .t2) (a .t3) (l .b) (omega arith) (l .inv .4) (omega arith) barred)
 
 due-next-requires : tie.Need-due-next-requires Inv-loop μ-loop
@@ -125,19 +127,29 @@ loop-again c =
     let n = getD (a .t2) (l .b) 0 in
     let s = passed (c .before .before .before .before .before .before .before .before .within2 .ensures) (c .before .before .before .before .before .before .before .if2 .left) in
     let size = within-is n 1 32 s in
-    let free = lands-free n (a .t3) (l .b) (getD (a .t3) (32 * l .b + l .t) noOp) (c .before .before .before .landing .ensures) (⊎-map (λ v. (v .0 .taken, v .1 .left)) (λ v. v .left) (c .before .before .if4 .came)) in
-    (search needs, search needs, search needs, search needs, op-more (a .count) (a .t2) (a .t3) (l .b) (omega arith) (l .inv .4) (omega arith) (passed (c .before .before .before .before .before .op-sound .ensures) (c .before .before .before .before .if3 .left)) free (c .before .due-next .ensures))
+    let free = lands-free n (a .t3) (l .b) (getD (a .t3) (32 * l .b + l .t) noOp) (c .before .before .before .landing .ensures) (⊎-map (λ v. (v .0 .taken, v .1 .left)) (λ v. v .left)
+    (c .before .before .if4 .came)) in (
+      search needs,
+      search needs,
+      search needs,
+      search needs,
+      op-more (a .count) (a .t2) (a .t3) (l .b) (omega arith) (l .inv .4) (omega arith)
+          (passed (c .before .before .before .before .before .op-sound .ensures) (c .before .before .before .before .if3 .left)) free (c .before .due-next .ensures),
+    )
 
 returns-5 : tie.Need-returns-5 Inv-loop μ-loop
 returns-5 c =
     let a = c .before .before .before .before .before .before .before .before .before .before .before .before .before .before .args in
     let l = c .before .before .before .before .before .before .before .before .before .before .before .loop in
-    let w = passed (c .before .before .before .before .before .before .before .before .before .before .before .before .before .within .ensures) (c .before .before .before .before .before .before .before .before .before .before .before .before .if1 .left) in
+    let w = passed (c .before .before .before .before .before .before .before .before .before .before .before .before .before .within .ensures)
+    (c .before .before .before .before .before .before .before .before .before .before .before .before .if1 .left) in
     let n = getD (a .t2) (l .b) 0 in
     let s = passed (c .before .before .before .before .before .before .before .before .before .within2 .ensures) (c .before .before .before .before .before .before .before .before .if2 .left) in
     let size = within-is n 1 32 s in
-    let free = lands-free n (a .t3) (l .b) (getD (a .t3) (32 * l .b + l .t) noOp) (c .before .before .before .before .landing .ensures) (⊎-map (λ v. (v .0 .taken, v .1 .left)) (λ v. v .left) (c .before .before .before .if4 .came)) in
-    let next = op-more (a .count) (a .t2) (a .t3) (l .b) (omega arith) (l .inv .4) (omega arith) (passed (c .before .before .before .before .before .before .op-sound .ensures) (c .before .before .before .before .before .if3 .left)) free (c .before .before .due-next .ensures) in
+    let free = lands-free n (a .t3) (l .b) (getD (a .t3) (32 * l .b + l .t) noOp) (c .before .before .before .before .landing .ensures) (⊎-map (λ v. (v .0 .taken, v .1 .left)) (λ v. v .left)
+    (c .before .before .before .if4 .came)) in
+    let next = op-more (a .count) (a .t2) (a .t3) (l .b) (omega arith) (l .inv .4) (omega arith) (passed (c .before .before .before .before .before .before .op-sound .ensures)
+    (c .before .before .before .before .before .if3 .left)) free (c .before .before .due-next .ensures) in
     rw w (due-stop (a .count) (a .t2) (a .t3) (l .b) (omega arith) next (omega arith) (c .if7 .taken))
 
 add-b : tie.Need-add-b Inv-loop μ-loop
@@ -153,8 +165,10 @@ loop-again-2 c =
     let n = getD (a .t2) (l .b) 0 in
     let s = passed (c .before .before .before .before .before .before .before .before .before .within2 .ensures) (c .before .before .before .before .before .before .before .before .if2 .left) in
     let size = within-is n 1 32 s in
-    let free = lands-free n (a .t3) (l .b) (getD (a .t3) (32 * l .b + l .t) noOp) (c .before .before .before .before .landing .ensures) (⊎-map (λ v. (v .0 .taken, v .1 .left)) (λ v. v .left) (c .before .before .before .if4 .came)) in
-    let next = op-more (a .count) (a .t2) (a .t3) (l .b) (omega arith) (l .inv .4) (omega arith) (passed (c .before .before .before .before .before .before .op-sound .ensures) (c .before .before .before .before .before .if3 .left)) free (c .before .before .due-next .ensures) in
+    let free = lands-free n (a .t3) (l .b) (getD (a .t3) (32 * l .b + l .t) noOp) (c .before .before .before .before .landing .ensures) (⊎-map (λ v. (v .0 .taken, v .1 .left)) (λ v. v .left)
+    (c .before .before .before .if4 .came)) in
+    let next = op-more (a .count) (a .t2) (a .t3) (l .b) (omega arith) (l .inv .4) (omega arith) (passed (c .before .before .before .before .before .before .op-sound .ensures)
+    (c .before .before .before .before .before .if3 .left)) free (c .before .before .due-next .ensures) in
     (search needs, search needs, search needs, search needs, next-code (a .count) (a .t2) (a .t3) (l .b) (omega arith) next (omega arith) s (c .if7 .left))
 
 returns-6 : tie.Need-returns-6 Inv-loop μ-loop

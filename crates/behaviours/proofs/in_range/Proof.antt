@@ -77,7 +77,8 @@ unfolding kindsIn operandInRange operand
 returns-2 c =
     let at = c .before .before in
     let a = at .before .before .before .before .before .args in
-    range-at _ _ _ (at .before .before .shape-of .ensures) RVT (at .enum-told10 .given .1) (rw (← and-assoc (leb (a .op .r) 3) (valueSound (a .op .value)) (leb (a .op .target) (a .len) && true), failed (c .before .register-and-value2 .ensures) (c .if2 .taken)))
+    range-at _ _ _ (at .before .before .shape-of .ensures) RVT (at .enum-told10 .given .1)
+    (rw (← and-assoc (leb (a .op .r) 3) (valueSound (a .op .value)) (leb (a .op .target) (a .len) && true), failed (c .before .register-and-value2 .ensures) (c .if2 .taken)))
 
 enum-told-11 : tie.Need-enum-told-11
 enum-told-11 c = search needs
@@ -131,7 +132,8 @@ returns-10 : tie.Need-returns-10
 unfolding kindsIn operandInRange operand
 returns-10 c =
     let at = c .before .before .before in
-    range-at _ _ _ (at .before .before .shape-of .ensures) KRST (at .enum-told8 .given .1) (rw (passed (c .before .before .clause-kind-sound .ensures) (c .before .if1 .left)) (c .registers-and-place .ensures ∙ simp (and-assoc, and-true)))
+    range-at _ _ _ (at .before .before .shape-of .ensures) KRST (at .enum-told8 .given .1) (rw (passed (c .before .before .clause-kind-sound .ensures) (c .before .if1 .left))
+    (c .registers-and-place .ensures ∙ simp (and-assoc, and-true)))
 
 returns-11 : tie.Need-returns-11
 unfolding kindsIn operandInRange operand
@@ -144,7 +146,9 @@ unfolding kindsIn operandInRange operand
 returns-12 c =
     let at = c .before .before .before in
     let a = at .before .before .before .before .before .args in
-    range-at _ _ _ (at .before .before .shape-of .ensures) RVT (at .enum-told10 .given .1) (rw (← and-assoc (leb (a .op .r) 3) (valueSound (a .op .value)) (leb (a .op .target) (a .len) && true), passed (c .before .before .register-and-value2 .ensures) (c .before .if2 .left)) (simp and-true))
+    range-at _ _ _ (at .before .before .shape-of .ensures) RVT (at .enum-told10 .given .1)
+    (rw (← and-assoc (leb (a .op .r) 3) (valueSound (a .op .value)) (leb (a .op .target) (a .len) && true), passed (c .before .before .register-and-value2 .ensures) (c .before .if2 .left))
+    (simp and-true))
 
 returns-13 : tie.Need-returns-13
 unfolding kindsIn operandInRange operand

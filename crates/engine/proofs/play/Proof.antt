@@ -3,7 +3,7 @@ use borrow.Author.Needs.{needs}
 use Rattle.engine.proofs.play.Statement.{statement}
 use Rattle.engine.proofs.play.Tie as tie
 use mathlib.Core.List.{map}
-use mathlib.Core.Path.{sym, _∙_}
+use mathlib.Core.Path.{refl, sym, _∙_}
 use lib.ListN.{length-map}
 use Rattle.actions.specs.Numbers.{actionOf}
 use Rattle.engine.proofs.Calls.{play-31, play-32, play-on}
@@ -23,20 +23,21 @@ returns c =
     let its-if2 = c .before .if2 in
     its-ended .ensures ∙ play-32 (its-args .n) (map actionOf (its-args .numbers .now)) (sym (its-sound .ensures) ∙ its-if1 .taken) (rw (length-map (its-args .numbers .now) actionOf) (its-if2 .taken))
 
-play-core-requires : tie.Need-play-core-requires
-play-core-requires c κs =
+core-requires : tie.Need-core-requires
+core-requires c κs =
     let its-sound = c .before .before .sound in
     let its-if1 = c .before .if1 in
     (sym (its-sound .ensures) ∙ its-if1 .taken)
 
 returns-2 : tie.Need-returns-2
 returns-2 c =
-    let its-play-core = c .play-core in
+    let its-core = c .core in
     let its-args = c .before .before .before .before .before .args in
     let its-sound = c .before .before .before .sound in
     let its-if1 = c .before .before .if1 in
     let its-if2 = c .before .if2 in
-    its-play-core .ensures ∙ play-on (its-args .n) (map actionOf (its-args .numbers .now)) (sym (its-sound .ensures) ∙ its-if1 .taken) (rw (length-map (its-args .numbers .now) actionOf) (its-if2 .left))
+    its-core .ensures .0 refl ∙ play-on (its-args .n) (map actionOf (its-args .numbers .now)) (sym (its-sound .ensures) ∙ its-if1 .taken) (rw (length-map (its-args .numbers .now) actionOf)
+    (its-if2 .left))
 
 ended-requires-2 : tie.Need-ended-requires-2
 ended-requires-2 c κs = search needs
@@ -56,7 +57,7 @@ play-spec =
     sound-requires
     ended-requires
     returns
-    play-core-requires
+    core-requires
     returns-2
     ended-requires-2
     returns-3)

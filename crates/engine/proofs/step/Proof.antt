@@ -1,6 +1,6 @@
 -- `step` is a schedule of one step. Assumes nothing.
 use borrow.Author.Needs.{needs}
-use mathlib.Core.Path.{sym, _∙_}
+use mathlib.Core.Path.{refl, sym, _∙_}
 use Rattle.rules.specs.Steps.{meaning}
 use Rattle.engine.proofs.step.Statement.{statement}
 use Rattle.engine.proofs.step.Tie as tie
@@ -12,11 +12,11 @@ sound-requires c κs = search needs
 encode-requires : tie.Need-encode-requires
 encode-requires c κs = search needs
 
-slice-aggregate-play-core : tie.Need-slice-aggregate-play-core
-slice-aggregate-play-core c = search needs
+slice-aggregate-core : tie.Need-slice-aggregate-core
+slice-aggregate-core c = search needs
 
-play-core-requires : tie.Need-play-core-requires
-play-core-requires c κs =
+core-requires : tie.Need-core-requires
+core-requires c κs =
     let its-sound = c .before .before .before .sound in
     let its-if1 = c .before .before .if1 in
     sym (its-sound .ensures) ∙ its-if1 .taken
@@ -27,8 +27,8 @@ returns c =
     let its-sound = c .before .before .before .before .before .sound in
     let its-if1 = c .before .before .before .before .if1 in
     let its-encode = c .before .before .before .encode in
-    let its-play = c .before .play-core in
-    step-played (its-args .n) (its-args .s) (its-encode .result) (its-encode .ensures .1) (sym (its-sound .ensures) ∙ its-if1 .taken) (its-play .result) (its-play .ensures)
+    let its-play = c .before .core in
+    step-played (its-args .n) (its-args .s) (its-encode .result) (its-encode .ensures .1) (sym (its-sound .ensures) ∙ its-if1 .taken) (its-play .result) (its-play .ensures .0 refl)
 
 returns-2 : tie.Need-returns-2
 returns-2 c =
@@ -43,7 +43,7 @@ step-spec =
     (tie.spec
     sound-requires
     encode-requires
-    slice-aggregate-play-core
-    play-core-requires
+    slice-aggregate-core
+    core-requires
     returns
     returns-2)

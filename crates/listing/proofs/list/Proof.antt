@@ -1,6 +1,6 @@
 -- `list` looks at soundness first. Assumes nothing.
 use borrow.Author.Needs.{needs}
-use Rattle.listing.proofs.Laws.{list-refused, list-allowed}
+use Rattle.listing.proofs.Listings.{list-refused, list-allowed}
 use Rattle.listing.proofs.list.Statement.{statement}
 use Rattle.listing.proofs.list.Tie as tie
 

@@ -1,7 +1,7 @@
 -- `put_closing` writes a closing process: its stage, reason and links. Assumes nothing.
 use borrow.Author.Needs.{needs}
 use Rattle.text.proofs.Writing.{wrote-length, _▸_}
-use Rattle.listing_lines.specs.Lines.{standingText}
+use Rattle.listing_lines.specs.Lines.{standingLines}
 use Rattle.listing_lines.proofs.put_closing.Statement.{statement}
 use Rattle.listing_lines.proofs.put_closing.Tie as tie
 
@@ -33,7 +33,7 @@ put-set-requires : tie.Need-put-set-requires
 put-set-requires c κs = search needs
 
 returns : tie.Need-returns
-unfolding standingText
+unfolding standingLines
 returns c =
     let links = c .before .before in
     let value-line = links .before .before .before .before .before in

@@ -1,7 +1,7 @@
 -- `put_gone` writes a gone process: only its stage. Assumes nothing.
 use borrow.Author.Needs.{needs}
 use Rattle.text.proofs.Writing.{wrote-length, _▸_}
-use Rattle.listing_lines.specs.Lines.{standingText}
+use Rattle.listing_lines.specs.Lines.{standingLines}
 use Rattle.listing_lines.proofs.put_gone.Statement.{statement}
 use Rattle.listing_lines.proofs.put_gone.Tie as tie
 
@@ -21,7 +21,7 @@ put-bytes-requires : tie.Need-put-bytes-requires
 put-bytes-requires c κs = search needs
 
 returns : tie.Need-returns
-unfolding standingText
+unfolding standingLines
 returns c =
     let bytes = c .before .before in
     let number-line = bytes .before .before .before .before .before in

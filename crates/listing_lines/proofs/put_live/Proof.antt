@@ -1,12 +1,12 @@
--- `put_live` writes a live process: its stage, then what it holds. Assumes nothing.
+-- `put_live` writes a live process: its stage, then what it holds, up to its messages. Assumes nothing.
 use mathlib.Core.Path.{ap}
 use borrow.Author.Needs.{needs}
 use Rattle.text.proofs.Writing.{wrote-length, _▸_, wrote-as}
-use Rattle.listing_lines.specs.Lines.{standingText}
+use Rattle.text.specs.Writing.{numberLine}
+use Rattle.listing_lines.specs.Lines.{standingLines}
 use Rattle.listing_lines.specs.Words.{trapKey}
 use Rattle.listing_lines.proofs.put_live.Statement.{statement}
 use Rattle.listing_lines.proofs.put_live.Tie as tie
-use Rattle.text.specs.Writing.{numberLine}
 
 slice-aggregate-put-number-line : tie.Need-slice-aggregate-put-number-line
 slice-aggregate-put-number-line c = search needs
@@ -59,14 +59,17 @@ slice-aggregate-put-set c = search needs
 put-set-requires : tie.Need-put-set-requires
 put-set-requires c κs = search needs
 
-put-mail-requires : tie.Need-put-mail-requires
-put-mail-requires c κs = search needs
+slice-aggregate-put-number-line-5 : tie.Need-slice-aggregate-put-number-line-5
+slice-aggregate-put-number-line-5 c = search needs
+
+put-number-line-requires-5 : tie.Need-put-number-line-requires-5
+put-number-line-requires-5 c κs = search needs
 
 returns : tie.Need-returns
-unfolding standingText
+unfolding standingLines
 returns c =
-    let mail = c .before .before in
-    let links = mail .before .before .before .before in
+    let number-line5 = c .before .before in
+    let links = number-line5 .before .before .before .before .before in
     let number-line4 = links .before .before .before .before .before .before in
     let at-flag = number-line4 .before in
     let registers = at-flag .before .before .before .before .before in
@@ -75,7 +78,8 @@ returns c =
     let bytes = number-line2 .before .before .before .before .before .before in
     let number-line = bytes .before .before .before .before .before in
     number-line .put-number-line .ensures ▸ bytes .put-bytes .ensures ▸ number-line2 .put-number-line2 .ensures ▸ number-line3 .put-number-line3 .ensures
-    ▸ registers .put-registers .ensures ▸ wrote-as (ap (numberLine trapKey) (at-flag .flag .ensures)) (number-line4 .put-number-line4 .ensures) ▸ links .put-set .ensures ▸ mail .put-mail .ensures
+    ▸ registers .put-registers .ensures ▸ wrote-as (ap (numberLine trapKey) (at-flag .flag .ensures)) (number-line4 .put-number-line4 .ensures) ▸ links .put-set .ensures ▸
+    number-line5 .put-number-line5 .ensures
 
 same-length : tie.Need-same-length
 same-length c = wrote-length (returns c)
@@ -101,6 +105,7 @@ put-live-spec =
     put-number-line-requires-4
     slice-aggregate-put-set
     put-set-requires
-    put-mail-requires
+    slice-aggregate-put-number-line-5
+    put-number-line-requires-5
     same-length
     returns)

@@ -2,10 +2,9 @@
 use mathlib.Core.Path.{sym}
 use native.Mathlib.Omega.{arith}
 use borrow.Author.Needs.{needs}
-use Rattle.listing_lines.proofs.Laws.{wrote-none}
+use Rattle.text.proofs.Writing.{_▸_, wrote-as, wrote-none}
 use Rattle.listing_lines.proofs.put_member.Statement.{statement}
 use Rattle.listing_lines.proofs.put_member.Tie as tie
-use Rattle.text.proofs.Writing.{_▸_, wrote-as}
 
 put-byte-requires : tie.Need-put-byte-requires
 put-byte-requires c κs = search needs

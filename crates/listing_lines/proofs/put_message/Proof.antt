@@ -1,10 +1,10 @@
 -- `put_message` writes a message by its kind. Assumes nothing.
 use mathlib.Core.Path.{sym, ap}
 use borrow.Author.Needs.{needs}
+use Rattle.text.proofs.Writing.{wrote-as}
 use Rattle.listing_lines.specs.Lines.{messageLine}
 use Rattle.listing_lines.proofs.put_message.Statement.{statement}
 use Rattle.listing_lines.proofs.put_message.Tie as tie
-use Rattle.text.proofs.Writing.{wrote-as}
 
 enum-known-m : tie.Need-enum-known-m
 enum-known-m c = search needs

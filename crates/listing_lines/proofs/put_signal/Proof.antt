@@ -1,10 +1,10 @@
 -- `put_signal` writes a signal by its kind. Assumes nothing.
 use mathlib.Core.Path.{sym, ap}
 use borrow.Author.Needs.{needs}
+use Rattle.text.proofs.Writing.{wrote-as}
 use Rattle.listing_lines.specs.Lines.{signalLine}
 use Rattle.listing_lines.proofs.put_signal.Statement.{statement}
 use Rattle.listing_lines.proofs.put_signal.Tie as tie
-use Rattle.text.proofs.Writing.{wrote-as}
 
 enum-known-x : tie.Need-enum-known-x
 enum-known-x c = search needs

@@ -43,7 +43,8 @@ returns-2 : tie.Need-returns-2 Inv-loop μ-loop
 returns-2 c =
     let args = c .before .before .before .before .before .before .args in
     let turn = c .before .before .before .before .loop in
-    clause-stop (args .len) (args .ops) (args .k) (args .t) (args .n) (turn .inv .1) (turn .i) (turn .inv .2) (c .before .before .before .loop-test .taken) (c .before .before .op-of .ensures) (c .if2 .taken)
+    clause-stop (args .len) (args .ops) (args .k) (args .t) (args .n) (turn .inv .1) (turn .i) (turn .inv .2) (c .before .before .before .loop-test .taken) (c .before .before .op-of .ensures)
+    (c .if2 .taken)
 
 add-i : tie.Need-add-i Inv-loop μ-loop
 add-i c = search needs
@@ -54,8 +55,12 @@ loop-less c = search needs
 loop-again : tie.Need-loop-again Inv-loop μ-loop
 loop-again c =
     let args = c .before .before .before .before .before .before .args in
-    let turn = c .before .before .before .before .loop in
-    (search needs, turn .inv .1, clause-more (args .len) (args .ops) (args .k) (args .t) (args .n) (turn .inv .1) (turn .i) (turn .inv .2) (c .before .before .before .loop-test .taken) (c .before .before .op-of .ensures) (c .if2 .left))
+    let turn = c .before .before .before .before .loop in (
+      search needs,
+      turn .inv .1,
+      clause-more (args .len) (args .ops) (args .k) (args .t) (args .n) (turn .inv .1) (turn .i) (turn .inv .2) (c .before .before .before .loop-test .taken)
+          (c .before .before .op-of .ensures) (c .if2 .left),
+    )
 
 returns-3 : tie.Need-returns-3 Inv-loop μ-loop
 returns-3 c =

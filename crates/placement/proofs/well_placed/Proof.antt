@@ -29,7 +29,8 @@ returns-3 : tie.Need-returns-3
 returns-3 c =
     let args = c .before .before .before .before .before .args in
     let pre = c .before .before .before .before .before .pre in
-    placed-due (args .len) (args .ops) (args .k) (args .t) (pre .0) (c .before .before .before .before .op-of .ensures) (c .before .before .if2 .taken) (λ e. c .before .if3 .left (pre .1 ∙ e)) (c .lands-free .ensures)
+    placed-due (args .len) (args .ops) (args .k) (args .t) (pre .0) (c .before .before .before .before .op-of .ensures) (c .before .before .if2 .taken) (λ e. c .before .if3 .left (pre .1 ∙ e))
+    (c .lands-free .ensures)
 
 lands-free-requires-2 : tie.Need-lands-free-requires-2
 lands-free-requires-2 c κs = search needs
@@ -37,7 +38,8 @@ lands-free-requires-2 c κs = search needs
 returns-4 : tie.Need-returns-4
 returns-4 c =
     let args = c .before .before .before .before .args in
-    placed-other (args .len) (args .ops) (args .k) (args .t) (c .before .before .before .before .pre .0) (c .before .before .before .op-of .ensures) (c .before .before .if1 .left) (c .before .if2 .left) (c .lands-free2 .ensures)
+    placed-other (args .len) (args .ops) (args .k) (args .t) (c .before .before .before .before .pre .0) (c .before .before .before .op-of .ensures) (c .before .before .if1 .left)
+    (c .before .if2 .left) (c .lands-free2 .ensures)
 
 pub well-placed-spec : {M : Type 1} → statement M
 well-placed-spec =

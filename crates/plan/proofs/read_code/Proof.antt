@@ -4,7 +4,7 @@ use Prim.Native.Nat.{ℕ}
 use native.Mathlib.Omega.{arith}
 use borrow.Author.Needs.{needs}
 use Rattle.plan_line.specs.Lines.{opLine}
-use Rattle.plan.specs.Plans.{more, codeLines, withCode}
+use Rattle.plan.specs.Plans.{codedNode, more, codeLines, withCode}
 use Rattle.plan.specs.Reading.{Left, onLine, times}
 use Rattle.plan.proofs.Loops.{mapped-on, then-stop, then-on}
 use Rattle.plan.proofs.Nodes.{counted-code}
@@ -24,7 +24,7 @@ unfolding codeLines
 returns c =
     let args = c .before .before .before .before .before .before .args in
     let count-at = c .before .before .before .count-at in
-    then-stop _ _ (count-at .ensures .0) (λ (n : ℕ) (l : Left). times n (more (onLine (opLine (args .count) n))) [] l) (withCode (args .node)) _ (c .if1 .taken)
+    then-stop _ _ (count-at .ensures .0) (λ (n : ℕ) (l : Left). times n (more (onLine (opLine (args .count) n))) [] l) (withCode (codedNode (args .codes))) _ (c .if1 .taken)
 
 read-ops-requires : tie.Need-read-ops-requires
 read-ops-requires c κs =
@@ -44,8 +44,8 @@ returns-2 c =
     let count-at = c .before .before .before .before .before .before .count-at in
     let if1 = c .before .before .before .if1 in
     let read-ops = c .before .before .read-ops in
-    then-on _ _ (count-at .ensures .0) (λ (n : ℕ) (l : Left). times n (more (onLine (opLine (args .count) n))) [] l) (withCode (args .node)) (if1 .left)
-    (mapped-on _ _ _ (withCode (args .node)) _ (read-ops .ensures) (λ ops e. counted-code (args .node) ops e))
+    then-on _ _ (count-at .ensures .0) (λ (n : ℕ) (l : Left). times n (more (onLine (opLine (args .count) n))) [] l) (withCode (codedNode (args .codes))) (if1 .left)
+    (mapped-on _ _ _ (withCode (codedNode (args .codes))) _ (read-ops .ensures) (λ ops e. counted-code (codedNode (args .codes)) ops e))
 
 pub read-code-spec : {M : Type 1} → statement M
 read-code-spec =

@@ -8,7 +8,7 @@ use borrow.Author.Needs.{needs}
 use Rattle.node.specs.declared.Op.{Op}
 use Rattle.plan.specs.Marks.{leftAt}
 use Rattle.plan_line.specs.Lines.{opLine}
-use Rattle.plan.specs.Plans.{withOps}
+use Rattle.plan.specs.Plans.{codedNode, withOps}
 use Rattle.plan.specs.Reading.{onLine}
 use Rattle.plan.proofs.Loops.{mapped-same, left-one, remains, Turn, turn-begin, turn-more, turn-stop, turn-end}
 use Rattle.plan.proofs.Nodes.{ops-next}
@@ -16,11 +16,12 @@ use Rattle.plan.proofs.read_ops.Statement.{statement}
 use Rattle.plan.proofs.read_ops.Tie as tie
 
 abbrev Inv-loop : tie.InvT-loop
-Inv-loop text node count len b mark₀ n₀ i₀ mark n i =
-    (i ≤ len) × Turn text (λ (ys : List Op). onLine (opLine count len)) (withOps node) (remains text (λ (ys : List Op). onLine (opLine count len)) (withOps node) len [] (leftAt text mark₀)) i (len - i) mark n
+Inv-loop text codes count len b mark₀ n₀ i₀ mark n i =
+    (i ≤ len) × Turn text (λ (ys : List Op). onLine (opLine count len)) (withOps (codedNode codes))
+    (remains text (λ (ys : List Op). onLine (opLine count len)) (withOps (codedNode codes)) len [] (leftAt text mark₀)) i (len - i) mark (codedNode n)
 
 abbrev μ-loop : tie.MeasureT-loop
-μ-loop text node count len b mark₀ n₀ i₀ mark n i = len - i
+μ-loop text codes count len b mark₀ n₀ i₀ mark n i = len - i
 
 cast-b : tie.Need-cast-b Inv-loop μ-loop
 cast-b c = search needs
@@ -84,7 +85,7 @@ loop-again c =
     let turn = c .before .before .before .before .before .before .loop in (
       search needs,
       turn-more _ _ _ (turn .inv .1) (λ (x : Op). x) (record { is = op-at .ensures .is ∙ mapped-same _; within = op-at .ensures .within }) (left-one _ _ (loop-test .taken)) (c .if1 .left)
-          (λ x e. ops-next (args .node) (turn .inv .1 .xs) (turn .inv .1 .made) e (turn .inv .1 .counted)),
+          (λ x e. ops-next (codedNode (args .codes)) (turn .inv .1 .xs) (turn .inv .1 .made) e (turn .inv .1 .counted)),
     )
 
 returns-2 : tie.Need-returns-2 Inv-loop μ-loop

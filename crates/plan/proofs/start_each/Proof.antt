@@ -71,7 +71,8 @@ loop-again c =
     let start-at = c .before .before .before .before .before .before .before .before .start-at in
     let turn = c .before .before .before .before .before .before .before .before .before .before .loop in (
       search needs,
-      turn-more _ _ _ (turn .inv .1) (λ (x : Start). x) (start-read _ (turn .mark) (args .count) (args .node) (turn .inv .1 .xs) (start-at .ensures .0) (turn .inv .1 .made)) (left-one _ _ (loop-test .taken)) (if1 .left)
+      turn-more _ _ _ (turn .inv .1) (λ (x : Start). x) (start-read _ (turn .mark) (args .count) (args .node) (turn .inv .1 .xs) (start-at .ensures .0) (turn .inv .1 .made))
+          (left-one _ _ (loop-test .taken)) (if1 .left)
           (λ x e. begun-more (args .node) (turn .inv .1 .xs) (started (turn .n) (start-at .result .start) (c .before .index .ensures) (c .fresh .ensures)) (turn .inv .1 .made) e),
     )
 

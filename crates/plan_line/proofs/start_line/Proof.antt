@@ -37,7 +37,8 @@ returns c =
     let args = c .before .before .before .before .before .before .before .args in
     let if1 = c .before .before .before .if1 in
     let starts = c .before .before .before .before .starts in
-    key-right startKey _ (starts .ensures) (noStart malformed) (λ (l : List ℕ). risen (args .last) (startOf (args .count) (fieldsOf l))) (if1 .taken) (c .rising .ensures ∙ ap (risen _) (c .before .read-start .ensures))
+    key-right startKey _ (starts .ensures) (noStart malformed) (λ (l : List ℕ). risen (args .last) (startOf (args .count) (fieldsOf l))) (if1 .taken)
+    (c .rising .ensures ∙ ap (risen _) (c .before .read-start .ensures))
 
 no-start-requires : tie.Need-no-start-requires
 no-start-requires c κs = search needs

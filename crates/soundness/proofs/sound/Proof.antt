@@ -1,121 +1,318 @@
--- `sound` gives `sound`: behaviours, processes and rows in flight. The loop keeps that the rows that are left give the answer. Assumes nothing.
-use Prim.Native.Nat.{_+_, _-_, _/_, _%_, _≤_}
-use Rattle.node.proofs.Good.{sized-node}
-use Rattle.node.proofs.Lists.{all-more, all-stop, all-end}
-use Rattle.node.specs.Lists.{allFrom}
-use Rattle.node.specs.Nodes.{noRow}
-use Rattle.node.specs.Rows.{signals}
-use Rattle.rules.specs.Nodes.{rowSound, sound as soundOf}
+-- `sound` gives `sound`: behaviours, then each process with its mailbox, then each row in flight. The loops keep that what is left gives the answer. Assumes nothing.
+use Prim.Native.Nat.{_-_, _≤_}
 use Rattle.node.proofs.Tests.{failed, passed}
-use Rattle.soundness.proofs.Blocks.{flight-rows, row-empty}
-use Rattle.soundness.proofs.Parts.{shaped-node, sound-by}
+use Rattle.rules.specs.Nodes.{sound as soundOf}
+use Rattle.soundness.proofs.Parts.{mailBlocks, process-by, rowBlocks, shaped-node, sound-due, sound-not}
+use Rattle.soundness.proofs.Walk.{Due, Within, begins, behind, ends, long-stop, more, next, own-stop, stop}
 use borrow.Author.Needs.{needs}
-use lib.ListN.{length, getD, drop}
-use mathlib.Core.Logic.{⊎-elim}
-use mathlib.Core.Path.{_≡_, sym, _∙_}
+use mathlib.Core.Bool.{true, _&&_}
+use mathlib.Core.Path.{refl, sym, _∙_}
 use native.Mathlib.Omega.{arith}
 use Rattle.soundness.proofs.sound.Statement.{statement}
 use Rattle.soundness.proofs.sound.Tie as tie
 
+abbrev Inv-loop2 : tie.InvT-loop2
+Inv-loop2 n count lens i at there number waiting m₀ m = (m ≤ waiting) × Within (mailBlocks n) (behind (rowBlocks n) 0 && true) (soundOf n) i m
+
+abbrev μ-loop2 : tie.MeasureT-loop2
+μ-loop2 n count lens i at there number waiting m₀ m = waiting - m
+
 abbrev Inv-loop : tie.InvT-loop
-Inv-loop n count k₀ k = (k ≤ 256) × (length (n .flight) ≡ 256) × (soundOf n ≡ allFrom (λ k r. rowSound (k / 16 + 1) (k % 16 + 1) (signals r)) k (drop k (n .flight)))
+Inv-loop n count lens i₀ i = (i ≤ 16) × Due (mailBlocks n) (behind (rowBlocks n) 0 && true) (soundOf n) i
 
 abbrev μ-loop : tie.MeasureT-loop
-μ-loop n count k₀ k = 256 - k
+μ-loop n count lens i₀ i = 16 - i
 
-behaviours-sound-requires : tie.Need-behaviours-sound-requires Inv-loop μ-loop
+abbrev Inv-loop4 : tie.InvT-loop4
+Inv-loop4 n count i k held from to m₀ m = (m ≤ held) × Within (rowBlocks n) true (soundOf n) k m
+
+abbrev μ-loop4 : tie.MeasureT-loop4
+μ-loop4 n count i k held from to m₀ m = held - m
+
+abbrev Inv-loop3 : tie.InvT-loop3
+Inv-loop3 n count i k₀ k = (k ≤ 256) × Due (rowBlocks n) true (soundOf n) k
+
+abbrev μ-loop3 : tie.MeasureT-loop3
+μ-loop3 n count i k₀ k = 256 - k
+
+behaviours-sound-requires : tie.Need-behaviours-sound-requires Inv-loop2 μ-loop2 Inv-loop μ-loop Inv-loop4 μ-loop4 Inv-loop3 μ-loop3
 behaviours-sound-requires c κs = search needs
 
-returns : tie.Need-returns Inv-loop μ-loop
-returns c = sym (sound-by (c .before .before .before .before .args .t1) (shaped-node _ (c .before .before .before .before .good .0)) ∙ rw (failed (c .before .behaviours-sound .ensures) (c .if1 .taken)))
+returns : tie.Need-returns Inv-loop2 μ-loop2 Inv-loop μ-loop Inv-loop4 μ-loop4 Inv-loop3 μ-loop3
+returns c =
+    let n = c .before .before .before .before .args .t1 in
+    sound-not n (shaped-node n (c .before .before .before .before .good .0)) (failed (c .before .behaviours-sound .ensures) (c .if1 .taken))
 
-processes-sound-requires : tie.Need-processes-sound-requires Inv-loop μ-loop
-processes-sound-requires c κs = search needs
-
-returns-2 : tie.Need-returns-2 Inv-loop μ-loop
-returns-2 c = sym (sound-by (c .before .before .before .before .before .before .before .before .args .t1) (shaped-node _ (c .before .before .before .before .before .before .before .before .good .0)) ∙ rw (passed (c .before .before .before .before .before .behaviours-sound .ensures) (c .before .before .before .before .if1 .left), failed (c .before .processes-sound .ensures) (c .if2 .taken)))
-
-loop-holds : tie.Need-loop-holds Inv-loop μ-loop
+loop-holds : tie.Need-loop-holds Inv-loop2 μ-loop2 Inv-loop μ-loop Inv-loop4 μ-loop4 Inv-loop3 μ-loop3
 loop-holds c =
-    let n = c .before .before .before .before .before .before .before .before .args .t1 in
-    let good = c .before .before .before .before .before .before .before .before .good .0 in
-    let size = sized-node n good .flight in
-    (search needs, size, sound-by n (shaped-node n good) ∙ rw (passed (c .before .before .before .before .before .behaviours-sound .ensures) (c .before .before .before .before .if1 .left), passed (c .before .processes-sound .ensures) (c .if2 .left)) (flight-rows (n .flight) size))
+    let n = c .before .before .before .before .args .t1 in
+    (search needs, sound-due n (passed (c .before .behaviours-sound .ensures) (c .if1 .left)) (shaped-node n (c .before .before .before .before .good .0)))
 
-mul-if3 : tie.Need-mul-if3 Inv-loop μ-loop
-mul-if3 c = search needs
+mul-p : tie.Need-mul-p Inv-loop2 μ-loop2 Inv-loop μ-loop Inv-loop4 μ-loop4 Inv-loop3 μ-loop3
+mul-p c = search needs
 
-element-copy-out-if3 : tie.Need-element-copy-out-if3 Inv-loop μ-loop
-element-copy-out-if3 c = search needs
+element-copy-out-p : tie.Need-element-copy-out-p Inv-loop2 μ-loop2 Inv-loop μ-loop Inv-loop4 μ-loop4 Inv-loop3 μ-loop3
+element-copy-out-p c = search needs
 
-mul-row : tie.Need-mul-row Inv-loop μ-loop
-mul-row c = search needs
+place-index-requires : tie.Need-place-index-requires Inv-loop2 μ-loop2 Inv-loop μ-loop Inv-loop4 μ-loop4 Inv-loop3 μ-loop3
+place-index-requires c κs = search needs
 
-element-copy-out-row : tie.Need-element-copy-out-row Inv-loop μ-loop
-element-copy-out-row c = search needs
+mul-there : tie.Need-mul-there Inv-loop2 μ-loop2 Inv-loop μ-loop Inv-loop4 μ-loop4 Inv-loop3 μ-loop3
+mul-there c = search needs
 
-add-from : tie.Need-add-from Inv-loop μ-loop
-add-from c = search needs
+element-copy-out-there : tie.Need-element-copy-out-there Inv-loop2 μ-loop2 Inv-loop μ-loop Inv-loop4 μ-loop4 Inv-loop3 μ-loop3
+element-copy-out-there c = search needs
 
-cast-from : tie.Need-cast-from Inv-loop μ-loop
-cast-from c = search needs
+add-number : tie.Need-add-number Inv-loop2 μ-loop2 Inv-loop μ-loop Inv-loop4 μ-loop4 Inv-loop3 μ-loop3
+add-number c = search needs
 
-add-to : tie.Need-add-to Inv-loop μ-loop
-add-to c = search needs
+cast-number : tie.Need-cast-number Inv-loop2 μ-loop2 Inv-loop μ-loop Inv-loop4 μ-loop4 Inv-loop3 μ-loop3
+cast-number c = search needs
 
-cast-to : tie.Need-cast-to Inv-loop μ-loop
-cast-to c = search needs
+process-sound-requires : tie.Need-process-sound-requires Inv-loop2 μ-loop2 Inv-loop μ-loop Inv-loop4 μ-loop4 Inv-loop3 μ-loop3
+process-sound-requires c κs = search needs
 
-row-sound-requires : tie.Need-row-sound-requires Inv-loop μ-loop
-row-sound-requires c κs = search needs
-
-returns-3 : tie.Need-returns-3 Inv-loop μ-loop
-returns-3 c =
-    let n = c .before .before .before .before .before .before .before .before .before .before .before .before .before .before .args .t1 in
+returns-2 : tie.Need-returns-2 Inv-loop2 μ-loop2 Inv-loop μ-loop Inv-loop4 μ-loop4 Inv-loop3 μ-loop3
+returns-2 c =
+    let n = c .before .before .before .before .before .before .before .before .before .before .args .t1 in
     let l = c .before .before .before .before .before .loop in
-    all-stop (λ k r. rowSound (k / 16 + 1) (k % 16 + 1) (signals r)) (n .flight) (l .k) (l .k) noRow (omega arith) (failed (c .before .row-sound .ensures) (c .if4 .taken)) (l .inv .2)
+    own-stop (mailBlocks n) (l .i) (omega arith) (l .inv .1) (failed (process-by n (l .i) _ (c .before .before .place-index .ensures) (c .before .process-sound .ensures)) (c .if2 .taken))
 
-add-k : tie.Need-add-k Inv-loop μ-loop
-add-k c = search needs
+element-copy-out-mail-count : tie.Need-element-copy-out-mail-count Inv-loop2 μ-loop2 Inv-loop μ-loop Inv-loop4 μ-loop4 Inv-loop3 μ-loop3
+element-copy-out-mail-count c = search needs
 
-loop-less : tie.Need-loop-less Inv-loop μ-loop
+mail-count-requires : tie.Need-mail-count-requires Inv-loop2 μ-loop2 Inv-loop μ-loop Inv-loop4 μ-loop4 Inv-loop3 μ-loop3
+mail-count-requires c κs = search needs
+
+returns-3 : tie.Need-returns-3 Inv-loop2 μ-loop2 Inv-loop μ-loop Inv-loop4 μ-loop4 Inv-loop3 μ-loop3
+returns-3 c =
+    let n = c .before .before .before .before .before .before .before .before .before .before .before .before .before .args .t1 in
+    let l = c .before .before .before .before .before .before .before .before .loop in
+    long-stop (mailBlocks n) (l .i) (omega arith) (l .inv .1) (rw (← c .before .mail-count .ensures) (c .if3 .taken))
+
+loop2-holds : tie.Need-loop2-holds Inv-loop2 μ-loop2 Inv-loop μ-loop Inv-loop4 μ-loop4 Inv-loop3 μ-loop3
+loop2-holds c =
+    let n = c .before .before .before .before .before .before .before .before .before .before .before .before .before .args .t1 in
+    let l = c .before .before .before .before .before .before .before .before .loop in (
+      search needs,
+      begins (mailBlocks n) (l .i) (omega arith) (l .inv .1)
+          (passed (process-by n (l .i) _ (c .before .before .before .before .before .place-index .ensures) (c .before .before .before .before .process-sound .ensures))
+          (c .before .before .before .if2 .left)) (rw (← c .before .mail-count .ensures) (c .if3 .left)),
+    )
+
+mul-slot : tie.Need-mul-slot Inv-loop2 μ-loop2 Inv-loop μ-loop Inv-loop4 μ-loop4 Inv-loop3 μ-loop3
+mul-slot c = search needs
+
+cast-slot : tie.Need-cast-slot Inv-loop2 μ-loop2 Inv-loop μ-loop Inv-loop4 μ-loop4 Inv-loop3 μ-loop3
+cast-slot c = search needs
+
+add-slot : tie.Need-add-slot Inv-loop2 μ-loop2 Inv-loop μ-loop Inv-loop4 μ-loop4 Inv-loop3 μ-loop3
+add-slot c = search needs
+
+mul-slot-2 : tie.Need-mul-slot-2 Inv-loop2 μ-loop2 Inv-loop μ-loop Inv-loop4 μ-loop4 Inv-loop3 μ-loop3
+mul-slot-2 c = search needs
+
+element-copy-out-slot : tie.Need-element-copy-out-slot Inv-loop2 μ-loop2 Inv-loop μ-loop Inv-loop4 μ-loop4 Inv-loop3 μ-loop3
+element-copy-out-slot c = search needs
+
+message-sound-requires : tie.Need-message-sound-requires Inv-loop2 μ-loop2 Inv-loop μ-loop Inv-loop4 μ-loop4 Inv-loop3 μ-loop3
+message-sound-requires c κs = search needs
+
+returns-4 : tie.Need-returns-4 Inv-loop2 μ-loop2 Inv-loop μ-loop Inv-loop4 μ-loop4 Inv-loop3 μ-loop3
+returns-4 c =
+    let n = c .before .before .before .before .before .before .before .before .before .before .before .before .before .before .before .before .before .before .args .t1 in
+    let l = c .before .before .before .before .before .before .before .before .before .before .before .before .before .loop in
+    let t = c .before .before .before .before .loop2 in
+    stop (mailBlocks n) (l .i) (t .m) (rw (← c .before .before .before .before .before .before .mail-count .ensures) (c .before .before .before .before .before .if3 .left)) (t .inv .1)
+    (rw (← c .before .before .before .before .before .before .mail-count .ensures) (c .before .before .before .loop2-test .taken)) (failed (c .before .message-sound .ensures) (c .if4 .taken))
+
+add-m : tie.Need-add-m Inv-loop2 μ-loop2 Inv-loop μ-loop Inv-loop4 μ-loop4 Inv-loop3 μ-loop3
+add-m c = search needs
+
+loop2-less : tie.Need-loop2-less Inv-loop2 μ-loop2 Inv-loop μ-loop Inv-loop4 μ-loop4 Inv-loop3 μ-loop3
+loop2-less c = search needs
+
+loop2-again : tie.Need-loop2-again Inv-loop2 μ-loop2 Inv-loop μ-loop Inv-loop4 μ-loop4 Inv-loop3 μ-loop3
+loop2-again c =
+    let n = c .before .before .before .before .before .before .before .before .before .before .before .before .before .before .before .before .before .before .args .t1 in
+    let l = c .before .before .before .before .before .before .before .before .before .before .before .before .before .loop in
+    let t = c .before .before .before .before .loop2 in (
+      search needs,
+      more (mailBlocks n) (l .i) (t .m) (rw (← c .before .before .before .before .before .before .mail-count .ensures) (c .before .before .before .before .before .if3 .left))
+          (t .inv .1) (rw (← c .before .before .before .before .before .before .mail-count .ensures) (c .before .before .before .loop2-test .taken))
+          (passed (c .before .message-sound .ensures) (c .if4 .left)),
+    )
+
+add-i : tie.Need-add-i Inv-loop2 μ-loop2 Inv-loop μ-loop Inv-loop4 μ-loop4 Inv-loop3 μ-loop3
+add-i c = search needs
+
+loop-less : tie.Need-loop-less Inv-loop2 μ-loop2 Inv-loop μ-loop Inv-loop4 μ-loop4 Inv-loop3 μ-loop3
 loop-less c = search needs
 
-loop-again : tie.Need-loop-again Inv-loop μ-loop
+loop-again : tie.Need-loop-again Inv-loop2 μ-loop2 Inv-loop μ-loop Inv-loop4 μ-loop4 Inv-loop3 μ-loop3
 loop-again c =
-    let n = c .before .before .before .before .before .before .before .before .before .before .before .args .t1 in
-    let l = c .before .before .loop in
-    let e = ⊎-elim (λ w. passed (w .2 .ensures) (w .3 .left)) (λ w. row-empty _ _ (getD (n .flight) (l .k) noRow) (w .left)) (c .if3 .came) in
-    (search needs, l .inv .1, all-more (λ k r. rowSound (k / 16 + 1) (k % 16 + 1) (signals r)) (n .flight) (l .k) (l .k) noRow (omega arith) e (l .inv .2))
+    let n = c .before .before .before .before .before .before .before .before .before .before .before .before .before .before .before .args .t1 in
+    let l = c .before .before .before .before .before .before .before .before .before .before .loop in
+    let t = c .before .loop2 in (
+      search needs,
+      next (mailBlocks n) (l .i) (t .m) (rw (← c .before .before .before .mail-count .ensures) (c .before .before .if3 .left)) (t .inv .1)
+          (rw (← c .before .before .before .mail-count .ensures) (c .loop2-test .left)),
+    )
 
-returns-4 : tie.Need-returns-4 Inv-loop μ-loop
-returns-4 c =
-    let n = c .before .before .before .before .before .before .before .before .before .before .args .t1 in
+loop3-holds : tie.Need-loop3-holds Inv-loop2 μ-loop2 Inv-loop μ-loop Inv-loop4 μ-loop4 Inv-loop3 μ-loop3
+loop3-holds c =
+    let n = c .before .before .before .before .before .before .args .t1 in
     let l = c .before .loop in
-    all-end (λ k r. rowSound (k / 16 + 1) (k % 16 + 1) (signals r)) (n .flight) (l .k) (l .k) noRow (omega arith) (l .inv .2)
+    (search needs, record { gives = ends (mailBlocks n) (l .i) (omega arith) (l .inv .1) })
+
+element-copy-out-held : tie.Need-element-copy-out-held Inv-loop2 μ-loop2 Inv-loop μ-loop Inv-loop4 μ-loop4 Inv-loop3 μ-loop3
+element-copy-out-held c = search needs
+
+returns-5 : tie.Need-returns-5 Inv-loop2 μ-loop2 Inv-loop μ-loop Inv-loop4 μ-loop4 Inv-loop3 μ-loop3
+returns-5 c =
+    let n = c .before .before .before .before .before .before .before .before .before .before .args .t1 in
+    let l = c .before .before .before .loop3 in
+    long-stop (rowBlocks n) (l .k) (omega arith) (l .inv .1) (c .if5 .taken)
+
+add-from : tie.Need-add-from Inv-loop2 μ-loop2 Inv-loop μ-loop Inv-loop4 μ-loop4 Inv-loop3 μ-loop3
+add-from c = search needs
+
+cast-from : tie.Need-cast-from Inv-loop2 μ-loop2 Inv-loop μ-loop Inv-loop4 μ-loop4 Inv-loop3 μ-loop3
+cast-from c = search needs
+
+add-to : tie.Need-add-to Inv-loop2 μ-loop2 Inv-loop μ-loop Inv-loop4 μ-loop4 Inv-loop3 μ-loop3
+add-to c = search needs
+
+cast-to : tie.Need-cast-to Inv-loop2 μ-loop2 Inv-loop μ-loop Inv-loop4 μ-loop4 Inv-loop3 μ-loop3
+cast-to c = search needs
+
+loop4-holds : tie.Need-loop4-holds Inv-loop2 μ-loop2 Inv-loop μ-loop Inv-loop4 μ-loop4 Inv-loop3 μ-loop3
+loop4-holds c =
+    let n = c .before .before .before .before .before .before .before .before .before .before .args .t1 in
+    let l = c .before .before .before .loop3 in
+    (search needs, begins (rowBlocks n) (l .k) (omega arith) (l .inv .1) refl (c .if5 .left))
+
+mul-cell : tie.Need-mul-cell Inv-loop2 μ-loop2 Inv-loop μ-loop Inv-loop4 μ-loop4 Inv-loop3 μ-loop3
+mul-cell c = search needs
+
+cast-cell : tie.Need-cast-cell Inv-loop2 μ-loop2 Inv-loop μ-loop Inv-loop4 μ-loop4 Inv-loop3 μ-loop3
+cast-cell c = search needs
+
+add-cell : tie.Need-add-cell Inv-loop2 μ-loop2 Inv-loop μ-loop Inv-loop4 μ-loop4 Inv-loop3 μ-loop3
+add-cell c = search needs
+
+mul-cell-2 : tie.Need-mul-cell-2 Inv-loop2 μ-loop2 Inv-loop μ-loop Inv-loop4 μ-loop4 Inv-loop3 μ-loop3
+mul-cell-2 c = search needs
+
+element-copy-out-cell : tie.Need-element-copy-out-cell Inv-loop2 μ-loop2 Inv-loop μ-loop Inv-loop4 μ-loop4 Inv-loop3 μ-loop3
+element-copy-out-cell c = search needs
+
+signal-sound-requires : tie.Need-signal-sound-requires Inv-loop2 μ-loop2 Inv-loop μ-loop Inv-loop4 μ-loop4 Inv-loop3 μ-loop3
+signal-sound-requires c κs = search needs
+
+returns-6 : tie.Need-returns-6 Inv-loop2 μ-loop2 Inv-loop μ-loop Inv-loop4 μ-loop4 Inv-loop3 μ-loop3
+returns-6 c =
+    let n = c .before .before .before .before .before .before .before .before .before .before .before .before .before .before .before .args .t1 in
+    let l = c .before .before .before .before .before .before .before .before .loop3 in
+    let t = c .before .before .before .before .loop4 in
+    stop (rowBlocks n) (l .k) (t .m) (c .before .before .before .before .before .if5 .left) (t .inv .1) (c .before .before .before .loop4-test .taken)
+    (failed (c .before .signal-sound .ensures) (c .if6 .taken))
+
+add-m-2 : tie.Need-add-m-2 Inv-loop2 μ-loop2 Inv-loop μ-loop Inv-loop4 μ-loop4 Inv-loop3 μ-loop3
+add-m-2 c = search needs
+
+loop4-less : tie.Need-loop4-less Inv-loop2 μ-loop2 Inv-loop μ-loop Inv-loop4 μ-loop4 Inv-loop3 μ-loop3
+loop4-less c = search needs
+
+loop4-again : tie.Need-loop4-again Inv-loop2 μ-loop2 Inv-loop μ-loop Inv-loop4 μ-loop4 Inv-loop3 μ-loop3
+loop4-again c =
+    let n = c .before .before .before .before .before .before .before .before .before .before .before .before .before .before .before .args .t1 in
+    let l = c .before .before .before .before .before .before .before .before .loop3 in
+    let t = c .before .before .before .before .loop4 in (
+      search needs,
+      more (rowBlocks n) (l .k) (t .m) (c .before .before .before .before .before .if5 .left) (t .inv .1) (c .before .before .before .loop4-test .taken)
+          (passed (c .before .signal-sound .ensures) (c .if6 .left)),
+    )
+
+add-k : tie.Need-add-k Inv-loop2 μ-loop2 Inv-loop μ-loop Inv-loop4 μ-loop4 Inv-loop3 μ-loop3
+add-k c = search needs
+
+loop3-less : tie.Need-loop3-less Inv-loop2 μ-loop2 Inv-loop μ-loop Inv-loop4 μ-loop4 Inv-loop3 μ-loop3
+loop3-less c = search needs
+
+loop3-again : tie.Need-loop3-again Inv-loop2 μ-loop2 Inv-loop μ-loop Inv-loop4 μ-loop4 Inv-loop3 μ-loop3
+loop3-again c =
+    let n = c .before .before .before .before .before .before .before .before .before .before .before .before .args .t1 in
+    let l = c .before .before .before .before .before .loop3 in
+    let t = c .before .loop4 in
+    (search needs, next (rowBlocks n) (l .k) (t .m) (c .before .before .if5 .left) (t .inv .1) (c .loop4-test .left))
+
+returns-7 : tie.Need-returns-7 Inv-loop2 μ-loop2 Inv-loop μ-loop Inv-loop4 μ-loop4 Inv-loop3 μ-loop3
+returns-7 c =
+    let n = c .before .before .before .before .before .before .before .before .args .t1 in
+    let l = c .before .loop3 in
+    sym (ends (rowBlocks n) (l .k) (omega arith) (l .inv .1))
 
 pub sound-spec : {M : Type 1} → statement M
 sound-spec =
     tie.close
     (tie.spec
+    Inv-loop2
+    μ-loop2
     Inv-loop
     μ-loop
+    Inv-loop4
+    μ-loop4
+    Inv-loop3
+    μ-loop3
     behaviours-sound-requires
     returns
-    processes-sound-requires
-    returns-2
     loop-holds
-    mul-if3
-    element-copy-out-if3
-    mul-row
-    element-copy-out-row
+    mul-p
+    element-copy-out-p
+    place-index-requires
+    mul-there
+    element-copy-out-there
+    add-number
+    cast-number
+    process-sound-requires
+    returns-2
+    element-copy-out-mail-count
+    mail-count-requires
+    returns-3
+    loop2-holds
+    mul-slot
+    cast-slot
+    add-slot
+    mul-slot-2
+    element-copy-out-slot
+    message-sound-requires
+    returns-4
+    add-m
+    loop2-less
+    loop2-again
+    add-i
+    loop-less
+    loop-again
+    loop3-holds
+    element-copy-out-held
+    returns-5
     add-from
     cast-from
     add-to
     cast-to
-    row-sound-requires
-    returns-3
+    loop4-holds
+    mul-cell
+    cast-cell
+    add-cell
+    mul-cell-2
+    element-copy-out-cell
+    signal-sound-requires
+    returns-6
+    add-m-2
+    loop4-less
+    loop4-again
     add-k
-    loop-less
-    loop-again
-    returns-4)
+    loop3-less
+    loop3-again
+    returns-7)

@@ -2,12 +2,14 @@
 use mathlib.Core.Logic.{⊎-elim}
 use Prim.Native.Nat.{_-_}
 use borrow.Author.Needs.{needs}
+use Rattle.rules.specs.Nodes.{sound}
+use Rattle.bench_c.specs.Rounds.{soundIn}
 use Rattle.bench_c.proofs.Laws.{Said, said-first, said-more, said-same, said-last}
 use Rattle.bench_c.proofs.rounds.sounds.Statement.{statement}
 use Rattle.bench_c.proofs.rounds.sounds.Tie as tie
 
 abbrev Inv-loop : tie.InvT-loop
-Inv-loop n rounds said₀ i₀ said i = Said rounds n i said
+Inv-loop n rounds said₀ i₀ said i = Said rounds (sound n) i said
 
 abbrev μ-loop : tie.MeasureT-loop
 μ-loop n rounds said₀ i₀ said i = rounds - i
@@ -38,6 +40,7 @@ loop-again c =
     (c .if1 .came)
 
 returns : tie.Need-returns Inv-loop μ-loop
+unfolding soundIn
 returns c = said-last (c .before .loop .inv) (c .loop-test .left)
 
 pub sounds-spec : {M : Type 1} → statement M

@@ -10,11 +10,11 @@ stop-requires c κs = search needs
 unborn-requires : tie.Need-unborn-requires
 unborn-requires c κs = search needs
 
-empty-requires : tie.Need-empty-requires
-empty-requires c κs = search needs
+blank-requires : tie.Need-blank-requires
+blank-requires c κs = search needs
 
-empty-requires-2 : tie.Need-empty-requires-2
-empty-requires-2 c κs = search needs
+blank-requires-2 : tie.Need-blank-requires-2
+blank-requires-2 c κs = search needs
 
 returns : tie.Need-returns
 unfolding blankNode
@@ -22,4 +22,4 @@ returns c = cc
 
 pub blank-spec : {M : Type 1} → statement M
 blank-spec =
-    tie.close (tie.spec stop-requires unborn-requires empty-requires empty-requires-2 returns)
+    tie.close (tie.spec stop-requires unborn-requires blank-requires blank-requires-2 returns)

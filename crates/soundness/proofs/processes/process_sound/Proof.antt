@@ -1,11 +1,10 @@
 -- `process_sound` gives `standingTold`, stage by stage. Assumes nothing.
-use Rattle.soundness.proofs.Parts.{told-in}
 use Rattle.node.proofs.Tests.{failed, passed}
-use Rattle.soundness.specs.Parts.{lengthIn}
+use Rattle.node.specs.Processes.{linksTo}
+use Rattle.soundness.specs.Parts.{runningTold}
 use borrow.Author.Needs.{needs}
-use lib.Dec.{eqb}
 use mathlib.Core.Bool.{not}
-use mathlib.Core.Path.{refl, ap}
+use mathlib.Core.Path.{ap}
 use Rattle.soundness.proofs.processes.process_sound.Statement.{statement}
 use Rattle.soundness.proofs.processes.process_sound.Tie as tie
 
@@ -19,12 +18,11 @@ running-sound-requires : tie.Need-running-sound-requires
 running-sound-requires c κs = search needs
 
 returns : tie.Need-returns
-returns c =
-    let a = c .before .before .before .before .before .args in
-    told-in (a .count) (lengthIn (a .count) (a .lens) (a .p .behaviour .0)) (eqb (a .there) 11) (a .i .0) (a .p) (a .m) (c .before .before .enum-told2 .given .1) (rw (failed (c .before .running-sound .ensures) (c .if1 .taken)))
+unfolding runningTold
+returns c = rw (c .before .before .enum-told2 .given .1, failed (c .before .running-sound .ensures) (c .if1 .taken))
 
-in-set-requires : tie.Need-in-set-requires
-in-set-requires c κs = search needs
+links-to-requires : tie.Need-links-to-requires
+links-to-requires c κs = search needs
 
 enum-told-3 : tie.Need-enum-told-3
 enum-told-3 c = search needs
@@ -33,35 +31,27 @@ value-sound-requires : tie.Need-value-sound-requires
 value-sound-requires c κs = search needs
 
 returns-2 : tie.Need-returns-2
-returns-2 c =
-    let a = c .before .before .before .before .before .args in
-    told-in (a .count) (lengthIn (a .count) (a .lens) (a .p .behaviour .0)) (eqb (a .there) 11) (a .i .0) (a .p) (a .m) (c .before .before .enum-told3 .given .1) (rw (failed (c .before .value-sound .ensures) (c .if2 .taken)))
+returns-2 c = rw (c .before .before .enum-told3 .given .1, failed (c .before .value-sound .ensures) (c .if2 .taken))
 
-in-set-requires-2 : tie.Need-in-set-requires-2
-in-set-requires-2 c κs = search needs
+links-to-requires-2 : tie.Need-links-to-requires-2
+links-to-requires-2 c κs = search needs
 
 enum-told-4 : tie.Need-enum-told-4
 enum-told-4 c = search needs
 
 returns-3 : tie.Need-returns-3
-returns-3 c =
-    let a = c .before .before .before .args in
-    told-in (a .count) (lengthIn (a .count) (a .lens) (a .p .behaviour .0)) (eqb (a .there) 11) (a .i .0) (a .p) (a .m) (c .enum-told .given .1) refl
+returns-3 c = rw (c .enum-told .given .1)
 
 returns-4 : tie.Need-returns-4
-returns-4 c =
-    let a = c .before .before .before .before .before .before .args in
-    told-in (a .count) (lengthIn (a .count) (a .lens) (a .p .behaviour .0)) (eqb (a .there) 11) (a .i .0) (a .p) (a .m) (c .before .before .before .enum-told2 .given .1) (rw (passed (c .before .before .running-sound .ensures) (c .before .if1 .left)) (ap not (c .in-set .ensures)))
+unfolding runningTold linksTo
+returns-4 c = rw (c .before .before .before .enum-told2 .given .1, passed (c .before .before .running-sound .ensures) (c .before .if1 .left)) (ap not (c .links-to .ensures))
 
 returns-5 : tie.Need-returns-5
-returns-5 c =
-    let a = c .before .before .before .before .before .before .args in
-    told-in (a .count) (lengthIn (a .count) (a .lens) (a .p .behaviour .0)) (eqb (a .there) 11) (a .i .0) (a .p) (a .m) (c .before .before .before .enum-told3 .given .1) (rw (passed (c .before .before .value-sound .ensures) (c .before .if2 .left)) (ap not (c .in-set2 .ensures)))
+unfolding linksTo
+returns-5 c = rw (c .before .before .before .enum-told3 .given .1, passed (c .before .before .value-sound .ensures) (c .before .if2 .left)) (ap not (c .links-to2 .ensures))
 
 returns-6 : tie.Need-returns-6
-returns-6 c =
-    let a = c .before .before .before .args in
-    told-in (a .count) (lengthIn (a .count) (a .lens) (a .p .behaviour .0)) (eqb (a .there) 11) (a .i .0) (a .p) (a .m) (c .enum-told4 .given .1) refl
+returns-6 c = rw (c .enum-told4 .given .1)
 
 pub process-sound-spec : {M : Type 1} → statement M
 process-sound-spec =
@@ -71,11 +61,11 @@ process-sound-spec =
     enum-told-2
     running-sound-requires
     returns
-    in-set-requires
+    links-to-requires
     enum-told-3
     value-sound-requires
     returns-2
-    in-set-requires-2
+    links-to-requires-2
     enum-told-4
     returns-3
     returns-4

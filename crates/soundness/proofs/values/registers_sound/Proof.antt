@@ -21,13 +21,25 @@ value-sound-requires-3 : tie.Need-value-sound-requires-3
 value-sound-requires-3 c κs = search needs
 
 returns-3 : tie.Need-returns-3
-returns-3 c = rw (passed (c .before .before .before .before .before .value-sound .ensures) (c .before .before .before .before .if1 .left), passed (c .before .before .before .value-sound2 .ensures) (c .before .before .if2 .left), failed (c .before .value-sound3 .ensures) (c .if3 .taken))
+returns-3 c = rw (
+  passed (c .before .before .before .before .before .value-sound .ensures) (c .before .before .before .before .if1 .left),
+  passed (c .before .before .before .value-sound2 .ensures)
+      (c .before .before .if2 .left),
+  failed (c .before .value-sound3 .ensures) (c .if3 .taken),
+)
 
 value-sound-requires-4 : tie.Need-value-sound-requires-4
 value-sound-requires-4 c κs = search needs
 
 returns-4 : tie.Need-returns-4
-returns-4 c = rw (passed (c .before .before .before .before .before .before .value-sound .ensures) (c .before .before .before .before .before .if1 .left), passed (c .before .before .before .before .value-sound2 .ensures) (c .before .before .before .if2 .left), passed (c .before .before .value-sound3 .ensures) (c .before .if3 .left), and-true) (c .value-sound4 .ensures)
+returns-4 c = rw (
+  passed (c .before .before .before .before .before .before .value-sound .ensures) (c .before .before .before .before .before .if1 .left),
+  passed
+      (c .before .before .before .before .value-sound2 .ensures) (c .before .before .before .if2 .left),
+  passed (c .before .before .value-sound3 .ensures) (c .before .if3 .left),
+  and-true,
+)
+    (c .value-sound4 .ensures)
 
 pub registers-sound-spec : {M : Type 1} → statement M
 registers-sound-spec =

@@ -1,0 +1,1033 @@
+-- The loop of the engine. What a turn knows is named once, at the places of the walk where it is learnt. Assumes nothing.
+use mathlib.Core.Bool.{Bool, true, false, cond, false≢true}
+use mathlib.Core.List.{List, map}
+use mathlib.Core.Logic.{_⊎_, inl, inr, ⊎-elim}
+use mathlib.Core.Path.{_≡_, refl, sym, _∙_, ap, subst}
+use Prim.Native.Nat.{ℕ, _+_, _-_, _*_, _≤_, _<_, min}
+use native.Mathlib.Omega.{arith}
+use borrow.Author.Needs.{needs, fits-under}
+use mir.Syntax.{w64}
+use mir.Val.{Fits}
+use lib.ListN.{length, getD, drop, set}
+use lib.Seq.{set-set, set-getD}
+use Rattle.actions.specs.Numbers.{actionOf}
+use Rattle.actions.specs.declared.Decoded.{Decoded}
+use Rattle.actions.proofs.Decoding.{Means, meant}
+use Rattle.decisions.specs.declared.Decision.{Decision}
+use Rattle.decisions.specs.Decided.{decidedOf, pairRefusal, birthRefusal}
+use Rattle.node.specs.declared.Node.{Node}
+use Rattle.node.specs.declared.Process.{Process}
+use Rattle.node.specs.declared.Cell.{Cell}
+use Rattle.node.specs.declared.Slot.{Slot}
+use Rattle.node.specs.Blocks.{Shelf, up}
+use Rattle.node.specs.Mailboxes.{noMessage, slotOf}
+use Rattle.node.specs.Nodes.{noOp, noProcess, mailShelf, flightShelf}
+use Rattle.node.specs.Rows.{noSignal, cellOf}
+use Rattle.rules.proofs.Commits.{parts-of}
+use Rattle.rules.specs.Nodes.{Sound}
+use Rattle.rules.specs.Receive.{firstClause, search as searchFor}
+use Rattle.rules.specs.Answers.{refused, done, noFit}
+use Rattle.rules.specs.Steps.{Action, Outcome, rule, played}
+use Rattle.engine.specs.Answers.{firstOf}
+use Rattle.engine.specs.Stores.{cellAt}
+use Rattle.engine.proofs.Changes.{searchedOf, waitingNext, sentNext, cellNext, slotNext}
+use Rattle.engine.proofs.Laws.{Going, going, stop, more, over, look-more, look-stop, look-over, withSlots, mailOf}
+use Rattle.engine.proofs.Stores.{up-end, Moved, moved-start, moved-more, moved-end}
+use Rattle.engine.proofs.Turns.{placeAt, clausesOf, P, O, C, X, W, Says, Y, Z, pairTold, birthTold, top, join, told-as-it-is, message-at, found, missed, passed, unfound, unsought}
+use Rattle.engine.proofs.Turns.{Verdict, Committed, made, storedMail, storedFlight, sentAt, stored-run, stored-birth, stored-arrival}
+use Rattle.engine.proofs.core.Statement.{statement}
+use Rattle.engine.proofs.core.Tie as tie
+
+abbrev Inv-loop2 : tie.InvT-loop2
+Inv-loop2 numbers looks node i t s k r p x waiting w e owner to number refusal₀ next₀ m top end message c₀ refusal next c =
+    (placeAt node p + 1 ≤ c) × (refusal ≡ refusal₀) × (next ≡ next₀)
+    × (searchFor (clausesOf node p) 0 (mailOf node k) ≡ firstClause (drop (c - (placeAt node p + 1)) (clausesOf node p)) (m - 16 * k) message
+    (searchFor (clausesOf node p) (m - 16 * k + 1) (drop (m - 16 * k + 1) (mailOf node k))))
+
+abbrev μ-loop2 : tie.MeasureT-loop2
+μ-loop2 numbers looks node i t s k r p x waiting w e owner to number refusal₀ next₀ m top end message c₀ refusal next c = end - c
+
+abbrev Inv-messages : tie.InvT-messages
+Inv-messages numbers looks node i t s k r p x waiting w e owner to number refusal₀ next₀ m₀ top end refusal next m =
+    (16 * k ≤ m) × (m ≤ top) × (refusal ≡ noFit)
+    × (searchFor (clausesOf node p) 0 (mailOf node k) ≡ searchFor (clausesOf node p) (m - 16 * k) (drop (m - 16 * k) (mailOf node k)))
+
+abbrev μ-messages : tie.MeasureT-messages
+μ-messages numbers looks node i t s k r p x waiting w e owner to number refusal₀ next₀ m₀ top end refusal next m = top - m
+
+abbrev Inv-loop3 : tie.InvT-loop3
+Inv-loop3 numbers looks node₀ i t s k r x waiting w e owner to number refusal m₀ top node m =
+    (m ≤ 256) × (node ≡ withSlots node₀ (node .slots)) × Moved (node₀ .slots) m₀ top (node .slots) m
+
+abbrev μ-loop3 : tie.MeasureT-loop3
+μ-loop3 numbers looks node₀ i t s k r x waiting w e owner to number refusal m₀ top node m = top - m
+
+abbrev Inv-loop : tie.InvT-loop
+Inv-loop numbers looks node₀ i₀ node i = (i ≤ length numbers) × Sound node × Going looks node₀ numbers i node
+
+abbrev μ-loop : tie.MeasureT-loop
+μ-loop numbers looks node₀ i₀ node i = length numbers - i
+
+-- an index fits its type
+small : {x : ℕ} → x < 65536 → Fits w64 x
+small {x} h = fits-under w64 x 65536 h tt
+
+-- ---- a turn whose step is decided
+
+abbrev Turn : Type 0
+Turn = tie.After-next Inv-loop2 μ-loop2 Inv-messages μ-messages Inv-loop3 μ-loop3 Inv-loop μ-loop
+
+module _ (c : Turn) where
+  abbrev numbers : List ℕ
+  numbers = (c .before .before .before .before .before .before .before .before .before .before .before .before .before .before .before .before .before .before .before) .args .numbers .now
+
+  abbrev looks : Bool
+  looks = (c .before .before .before .before .before .before .before .before .before .before .before .before .before .before .before .before .before .before .before) .args .looks
+
+  abbrev n₀ : Node
+  n₀ = (c .before .before .before .before .before .before .before .before .before .before .before .before .before .before .before .before .before .before .before) .args .n
+
+  abbrev count : ℕ
+  count = (c .before .before .before .before .before .before .before .before .before .before .before .before .before .before .before .before .before) .loop .i
+
+  abbrev action : Action
+  action = actionOf (getD numbers count 0)
+
+  abbrev N : Node
+  N = (c .before .before .before .before .before .before .before .before .before .before .before .before .before .before .before .before .before) .loop .node
+
+  abbrev N-sound : Sound N
+  N-sound = (c .before .before .before .before .before .before .before .before .before .before .before .before .before .before .before .before .before) .loop .inv .1
+
+  abbrev T : Decoded
+  T = (c .before .before .before .before .before .before .before .before .before .before .before .before .before .before) .decode .result
+
+  abbrev E : Decision
+  E = (c .before .before .before .before) .decide .result
+
+  in-list : count < length numbers
+  in-list = (c .before .before .before .before .before .before .before .before .before .before .before .before .before .before .before .before) .loop-test .taken
+
+  abbrev T-means : Means action T
+  T-means = meant (getD numbers count 0) T ((c .before .before .before .before .before .before .before .before .before .before .before .before .before .before) .decode .ensures .0)
+
+  abbrev x : ℕ
+  x = (c .before .before .before .before .before .before .before .before .before .before .before) .op-index .result
+
+  abbrev behindOp : ℕ
+  behindOp = placeAt N (P N N-sound T T-means) + 1
+
+  abbrev waits : ℕ
+  waits = W N N-sound T T-means
+
+  abbrev clauses : ℕ
+  clauses = O N N-sound T T-means .small
+
+  x-is : x ≡ placeAt N (P N N-sound T T-means)
+  x-is = (c .before .before .before .before .before .before .before .before .before .before .before) .op-index .ensures .0
+
+  E-says : Says N N-sound T T-means E
+  E-says = (c .before .before .before .before) .decide .ensures ∙ (λ i. decidedOf T (P N N-sound T T-means) (C N N-sound T T-means) (X N N-sound T T-means)
+      (getD (N .lens) ((c .before .before .before .before .before .before .before) .behaviour-index .ensures .0 i) 0) (getD (N .ops) (x-is i) noOp) waits)
+
+  at-bound : T .at < 16
+  at-bound = (c .before .before .before .before .before .before .before .before .before .before .before .before .before .before) .decode .ensures .1 .0
+
+  arrival-bound : T .row < 256
+  arrival-bound = (c .before .before .before .before .before .before .before .before .before .before .before .before .before .before) .decode .ensures .1 .1
+
+  x-bound : x < 256
+  x-bound = (c .before .before .before .before .before .before .before .before .before .before .before) .op-index .ensures .1
+
+  abbrev lastSlot : ℕ
+  lastSlot = top N N-sound T T-means E E-says
+
+  last-is : E .receives ≡ true → (r : ℕ) → r ≡ min waits 16 → 16 * T .at + r ≡ lastSlot
+  unfolding searchedOf
+  last-is h r e = ap (λ (k : ℕ). 16 * T .at + k) (e ∙ sym (ap (λ (b : Bool). cond b (min waits 16) 0) h))
+
+  last-first : E .receives ≡ false → 16 * T .at ≡ lastSlot
+  unfolding searchedOf
+  last-first h = let e : lastSlot ≡ 16 * T .at + 0 = ap (λ (b : Bool). 16 * T .at + cond b (min waits 16) 0) h in omega (arith, e)
+
+  last-bound : lastSlot ≤ 256
+  unfolding searchedOf
+  last-bound = go (E .receives) at-bound
+    where
+      go : (b : Bool) → T .at < 16 → 16 * T .at + cond b (min waits 16) 0 ≤ 256
+      go true h = omega (arith, h)
+      go false h = omega (arith, h)
+
+  end-is : (r : ℕ) → r ≡ min (x + 1 + getD (N .ops) x noOp .small) 256 → r ≡ min (behindOp + clauses) 256
+  end-is r e = e ∙ ap (λ (k : ℕ). min (k + 1 + getD (N .ops) k noOp .small) 256) x-is
+
+  looked : looks ≡ true → Going true n₀ numbers count N
+  looked e = subst (λ (b : Bool). Going b n₀ numbers count N) e
+      ((c .before .before .before .before .before .before .before .before .before .before .before .before .before .before .before .before .before) .loop .inv .2)
+
+  played-on : looks ≡ false → Going false n₀ numbers count N
+  played-on e = subst (λ (b : Bool). Going b n₀ numbers count N) e
+      ((c .before .before .before .before .before .before .before .before .before .before .before .before .before .before .before .before .before) .loop .inv .2)
+
+  -- a step is refused that was only looked at
+  looks-on : looks ≡ true → (k : ℕ) → rule N action ≡ refused k → (count + 1 ≤ length numbers) × Sound N × Going looks n₀ numbers (count + 1) N
+  looks-on e k r =
+      let h = in-list in
+      (omega (arith, h), N-sound, subst (λ (b : Bool). Going b n₀ numbers (count + 1) N) (sym e) (look-more n₀ numbers count N N-sound (looked e) k in-list r))
+
+  -- a step is accepted and played
+  plays-on : looks ≡ false → (m k : Node) → m ≡ k → rule N action ≡ done k → (count + 1 ≤ length numbers) × Sound m × Going looks n₀ numbers (count + 1) m
+  plays-on e m k s r =
+      subst (λ (x : Node). (count + 1 ≤ length numbers) × Sound x × Going looks n₀ numbers (count + 1) x) (sym s)
+      (subst (λ (b : Bool). (count + 1 ≤ length numbers) × Sound k × Going b n₀ numbers (count + 1) k) (sym e) (more numbers count N k in-list N-sound (played-on e) r))
+
+  abbrev Told : ℕ → Process → ℕ → Type 0
+  Told k p m = Verdict N N-sound T T-means E E-says k p m
+
+  abbrev Commits : Process → ℕ → Type 0
+  Commits p m = Committed N N-sound T T-means E E-says p m
+
+-- ---- the search is over, where there is one
+
+abbrev Sought : Type 0
+Sought = tie.Joined1 Inv-loop2 μ-loop2 Inv-messages μ-messages Inv-loop3 μ-loop3 Inv-loop μ-loop
+
+module _ (c : Sought) where
+  abbrev sought-by : Turn
+  sought-by = (c .before)
+
+  abbrev m : ℕ
+  m = c .if1 .m
+
+  abbrev next : Process
+  next = c .if1 .next
+
+  -- what is known of the refusal, the next process and the slot
+  abbrev Answer : Type 0
+  Answer =
+      ((E sought-by .receives ≡ true) × Told sought-by (c .if1 .refusal) next m)
+      ⊎ ((E sought-by .receives ≡ false) × (c .if1 .refusal ≡ E sought-by .refusal) × (next ≡ E sought-by .process) × (m ≡ 16 * T sought-by .at))
+
+  record Ends : Type 0 where
+    pub last : c .if1 .top ≡ lastSlot sought-by
+    pub within : m ≤ lastSlot sought-by
+    pub answer : Answer
+
+  ends : Ends
+  ends =
+      let t = sought-by in
+      ⊎-elim
+      (λ w.
+      let v = w .3 .inv in
+      let last = last-is t (w .0 .taken) (w .1 .result) (w .1 .ensures) in
+      let none : rule (N t) (action t) ≡ refused noFit = unfound (N t) (N-sound t) (T t) (T-means t) (E t) (E-says t) (w .0 .taken) (w .3 .m) (subst (λ (x : ℕ). x ≤ w .3 .m) last (w .4 .left))
+      (v .3) in
+      let is : c .if1 .refusal ≡ noFit = w .5 ∙ v .2 in
+      record {
+        last = w .8 ∙ last;
+        within = subst (λ (x : ℕ). x ≤ lastSlot t) (sym (w .7)) (subst (λ (x : ℕ). w .3 .m ≤ x) last (v .1));
+        answer = inl (w .0 .taken, inl ((λ z. omega (arith, z, is)), none ∙ ap refused (sym is)));
+      })
+      (⊎-elim
+      (λ w.
+      let v = w .3 .inv in
+      let last = last-is t (w .0 .taken) (w .1 .result) (w .1 .ensures) in
+      let k = w .3 .m in
+      let hit : Commits t (w .11 .result) k =
+      subst (λ (p : Process). Commits t p k) (sym (w .11 .ensures))
+      (found (N t) (N-sound t) (T t) (T-means t) (E t) (E-says t) k (w .6 .c) (v .0) (subst (λ (x : ℕ). k < x) last (w .4 .taken)) (w .6 .inv .0)
+      (subst (λ (x : ℕ). w .6 .c < x) (end-is t (w .2 .result) (w .2 .ensures)) (w .7 .taken)) (sym (w .9 .ensures) ∙ w .10 .taken) (w .6 .inv .3)) in
+      record {
+        last = w .15 ∙ last;
+        within = subst (λ (x : ℕ). x ≤ lastSlot t) (sym (w .14)) (subst (λ (x : ℕ). k ≤ x) last (v .1));
+        answer = inl (w .0 .taken, inr (w .12, subst (λ (j : ℕ). Commits t next j) (sym (w .14)) (subst (λ (p : Process). Commits t p k) (sym (w .13)) hit)));
+      })
+      (λ w.
+      let last = last-first t (w .0 .left) in
+      record {
+        last = w .4 ∙ last;
+        within = subst (λ (x : ℕ). x ≤ lastSlot t) (sym (w .3)) (subst (λ (x : ℕ). 16 * T t .at ≤ x) last (omega arith));
+        answer = inr (w .0 .left, w .1, w .2, w .3);
+      }))
+      (c .if1 .came)
+
+-- ---- 26 and 27
+
+abbrev Paired : Type 0
+Paired = tie.Joined3 Inv-loop2 μ-loop2 Inv-messages μ-messages Inv-loop3 μ-loop3 Inv-loop μ-loop
+
+paired : (c : Paired) → c .if3 .refusal ≡ pairTold (N ((c .before .before))) (N-sound ((c .before .before))) (T ((c .before .before))) (T-means ((c .before .before))) (E ((c .before .before)))
+    (E-says ((c .before .before))) ((c .before) .if1 .refusal)
+paired c =
+    let r = (c .before) .if1 .refusal in
+    let n = N ((c .before .before)) in
+    let told = pairRefusal r (getD (n .counts) (Y n (N-sound ((c .before .before))) (T ((c .before .before))) (T-means ((c .before .before))) (E ((c .before .before)))
+    (E-says ((c .before .before)))) 0) in
+    ⊎-elim (λ w. w .4 ∙ w .3 .ensures ∙ ap (λ (y : ℕ). pairRefusal r (getD (n .counts) y 0)) (w .1 .ensures .0) ∙ sym (ap (λ (b : Bool). cond b told r) (w .0 .taken)))
+    (λ w. w .1 ∙ sym (ap (λ (b : Bool). cond b told r) (w .0 .left)))
+    (c .if3 .came)
+
+abbrev Over : Type 0
+Over = tie.Joined4 Inv-loop2 μ-loop2 Inv-messages μ-messages Inv-loop3 μ-loop3 Inv-loop μ-loop
+
+module _ (c : Over) where
+  abbrev t : Turn
+  t = (c .before .before .before)
+
+  abbrev s : Sought
+  s = (c .before .before)
+
+  abbrev refusal : ℕ
+  refusal = c .if4 .refusal
+
+  judged-is : refusal ≡ birthTold (N t) (N-sound t) (T t) (T-means t) (E t) (E-says t) (pairTold (N t) (N-sound t) (T t) (T-means t) (E t) (E-says t) (s .if1 .refusal))
+  judged-is =
+      let r = (c .before) .if3 .refusal in
+      let old = getD (N t .processes) (Z (N t) (N-sound t) (T t) (T-means t) (E t) (E-says t)) noProcess in
+      ⊎-elim (λ w. w .4 ∙ w .3 .ensures ∙ ap (λ (k : ℕ). birthRefusal r (getD (N t .processes) k noProcess)) (w .1 .ensures .0) ∙ sym (ap (λ (b : Bool). cond b (birthRefusal r old) r) (w .0 .taken)))
+      (λ w. w .1 ∙ sym (ap (λ (b : Bool). cond b (birthRefusal r old) r) (w .0 .left)))
+      (c .if4 .came)
+      ∙ ap (birthTold (N t) (N-sound t) (T t) (T-means t) (E t) (E-says t)) (paired ((c .before)))
+
+  verdict : Told t refusal (next s) (m s)
+  verdict =
+      let tell : ℕ → ℕ = λ r. birthTold (N t) (N-sound t) (T t) (T-means t) (E t) (E-says t) (pairTold (N t) (N-sound t) (T t) (T-means t) (E t) (E-says t) r) in
+      ⊎-elim
+      (λ w. subst (λ (k : ℕ). Told t k (next s) (m s)) (sym (judged-is ∙ told-as-it-is (N t) (N-sound t) (T t) (T-means t) (E t) (E-says t) (w .0) (s .if1 .refusal))) (w .1))
+      (λ w.
+      subst (λ (k : ℕ). Told t refusal (next s) k) (sym (w .3))
+      (subst (λ (p : Process). Told t refusal p (16 * T t .at)) (sym (w .2)) (unsought (N t) (N-sound t) (T t) (T-means t) (E t) (E-says t) (w .0) refusal (judged-is ∙ ap tell (w .1)))))
+      (ends s .answer)
+
+  refuses : (refusal ≡ 0 → ⊥) → rule (N t) (action t) ≡ refused refusal
+  refuses z = ⊎-elim (λ w. w .1) (λ w. absurd (z (w .0))) verdict
+
+  commits : refusal ≡ 0 → Commits t (next s) (m s)
+  commits z = ⊎-elim (λ w. absurd (w .0 z)) (λ w. w .1) verdict
+
+-- ---- the stores, one after another
+
+abbrev Shifted : Type 0
+Shifted = tie.Joined8 Inv-loop2 μ-loop2 Inv-messages μ-messages Inv-loop3 μ-loop3 Inv-loop μ-loop
+
+module _ (c : Shifted) where
+  abbrev t8 : Turn
+  t8 = (c .before .before .before .before .before .before)
+
+  abbrev s8 : Sought
+  s8 = (c .before .before .before .before .before)
+
+  -- the messages behind the one that is taken have moved up
+  abbrev slots8 : List Slot
+  slots8 = up (m s8) (lastSlot t8) (N t8 .slots)
+
+  abbrev mail8 : Shelf Slot
+  mail8 = record { cells = slots8; counts = set (N t8 .waiting) (T t8 .at) (cond (E t8 .receives) (waits t8 - 1) (waits t8)) }
+
+  abbrev processes8 : List Process
+  processes8 = set (N t8 .processes) (T t8 .at) (next s8)
+
+  shifted-is : c .if8 .node ≡ made (N t8) processes8 mail8 (flightShelf (N t8))
+  shifted-is =
+      let n = N t8 in
+      let w0 = waits t8 in
+      ⊎-elim
+      (λ w.
+      let v = w .2 .inv in
+      let slots : w .2 .node .slots ≡ slots8 = moved-end (v .2) (w .3 .left) ∙ ap (λ (x : ℕ). up (m s8) x (n .slots)) (ends s8 .last) in
+      let counts : set (n .waiting) (T t8 .at) (w .1 .result) ≡ mail8 .counts = ap (set (n .waiting) (T t8 .at)) (w .1 .ensures ∙ sym (ap (λ (b : Bool). cond b (w0 - 1) w0) (w .0 .taken))) in
+      w .4 ∙ v .1 ∙ (λ i. made n processes8 (record { cells = slots i; counts = counts i }) (flightShelf n)))
+      (λ w.
+      let counts : n .waiting ≡ mail8 .counts = sym (ap (λ (b : Bool). set (n .waiting) (T t8 .at) (cond b (w0 - 1) w0)) (w .0 .left) ∙ set-getD (n .waiting) (T t8 .at) 0) in
+      let slots : n .slots ≡ slots8 = sym (up-end (m s8) (lastSlot t8) (n .slots) (unmoved (w .0 .left))) in
+      w .1 ∙ (λ i. made n processes8 (record { cells = slots i; counts = counts i }) (flightShelf n)))
+      (c .if8 .came)
+    where
+      unmoved : E t8 .receives ≡ false → lastSlot t8 ≤ m s8 + 1
+      unmoved q = ⊎-elim (λ w. absurd (false≢true (sym q ∙ w .0))) (λ w. let e = w .3 in let l = last-first t8 q in omega (arith, e, l)) (ends s8 .answer)
+
+abbrev Joined : Type 0
+Joined = tie.Joined9 Inv-loop2 μ-loop2 Inv-messages μ-messages Inv-loop3 μ-loop3 Inv-loop μ-loop
+
+module _ (c : Joined) where
+  abbrev t9 : Turn
+  t9 = (c .before .before .before .before .before .before .before)
+
+  abbrev s9 : Sought
+  s9 = (c .before .before .before .before .before .before)
+
+  abbrev Q8 : Node
+  Q8 = (c .before) .if8 .node
+
+  abbrev mail9 : Shelf Slot
+  mail9 = storedMail (N t9) (N-sound t9) (T t9) (T-means t9) (E t9) (E-says t9) (m s9)
+
+  joined-is : c .if9 .node ≡ made (N t9) (processes8 (c .before)) mail9 (flightShelf (N t9))
+  unfolding slotNext waitingNext
+  joined-is =
+      let n = N t9 in
+      let w0 = waits t9 in
+      let l = slots8 (c .before) in
+      let j = join n (N-sound t9) (T t9) (T-means t9) (E t9) (E-says t9) in
+      let before = shifted-is (c .before) in
+      let old = getD l j noMessage in
+      let fewer = cond (E t9 .receives) (w0 - 1) w0 in
+      ⊎-elim
+      (λ w.
+      let yes = w .0 .taken in
+      let slots : set l (16 * T t9 .at + w .1 .result) (slotOf (E t9 .message)) ≡ mail9 .cells =
+      (λ i. set l (16 * T t9 .at + w .1 .ensures i) (slotOf (E t9 .message))) ∙ sym (ap (λ (b : Bool). set l j (cond b (slotOf (E t9 .message)) old)) yes) in
+      let counts : set (set (n .waiting) (T t9 .at) fewer) (T t9 .at) (w .2 .result) ≡ mail9 .counts =
+      set-set (n .waiting) (T t9 .at) fewer (w .2 .result) ∙ ap (set (n .waiting) (T t9 .at)) (w .2 .ensures ∙ sym (ap (λ (b : Bool). cond b (min (w0 + 1) 255) fewer) yes)) in
+      w .3
+      ∙ ap (λ (q : Node). made q (q .processes) (record { cells = set (q .slots) (16 * T t9 .at + w .1 .result) (slotOf (E t9 .message)); counts = set (q .waiting) (T t9 .at) (w .2 .result) })
+      (flightShelf q)) before
+      ∙ (λ i. made n (processes8 (c .before)) (record { cells = slots i; counts = counts i }) (flightShelf n)))
+      (λ w.
+      let no = w .0 .left in
+      let slots : l ≡ mail9 .cells = sym (ap (λ (b : Bool). set l j (cond b (slotOf (E t9 .message)) old)) no ∙ set-getD l j noMessage) in
+      let counts : set (n .waiting) (T t9 .at) fewer ≡ mail9 .counts = sym (ap (λ (b : Bool). set (n .waiting) (T t9 .at) (cond b (min (w0 + 1) 255) fewer)) no) in
+      w .1 ∙ before ∙ (λ i. made n (processes8 (c .before)) (record { cells = slots i; counts = counts i }) (flightShelf n)))
+      (c .if9 .came)
+
+abbrev Stored : Type 0
+Stored = tie.Joined10 Inv-loop2 μ-loop2 Inv-messages μ-messages Inv-loop3 μ-loop3 Inv-loop μ-loop
+
+module _ (c : Stored) where
+  abbrev u : Turn
+  u = (c .before .before .before .before .before .before .before .before)
+
+  abbrev flight : Shelf Cell
+  flight = storedFlight (N u) (N-sound u) (T u) (T-means u) (E u) (E-says u)
+
+  stored-is : c .if10 .node ≡ made (N u) (processes8 (c .before .before)) (mail9 (c .before)) flight
+  unfolding sentNext cellNext
+  stored-is =
+      let n = N u in
+      let y = Y n (N-sound u) (T u) (T-means u) (E u) (E-says u) in
+      let at = sentAt n (N-sound u) (T u) (T-means u) (E u) (E-says u) in
+      let sent = getD (n .counts) y 0 in
+      let old = getD (n .cells) at noSignal in
+      let before = joined-is (c .before) in
+      let signal = cellOf (E u .signal) in
+      ⊎-elim
+      (λ w.
+      let yes = w .0 .taken in
+      let row = w .1 .ensures .0 in
+      let kept : (c .before) .if9 .node .counts ≡ n .counts = ap (λ (q : Node). q .counts) before in
+      let had : getD ((c .before) .if9 .node .counts) (w .1 .result) 0 ≡ sent = (λ i. getD (kept i) (row i) 0) in
+      let cell : w .3 .result ≡ at = w .3 .ensures .0 ∙ (λ i. cellAt (row i) (had i)) in
+      let cells : set (n .cells) (w .3 .result) signal ≡ flight .cells = ap (λ (k : ℕ). set (n .cells) k signal) cell ∙ sym (ap (λ (b : Bool). set (n .cells) at (cond b signal old)) yes) in
+      let more : w .4 .result ≡ min (sent + 1) 255 = w .4 .ensures ∙ ap (λ (k : ℕ). min (k + 1) 255) had in
+      let counts : set (n .counts) (w .1 .result) (w .4 .result) ≡ flight .counts = (λ i. set (n .counts) (row i) (more i))
+      ∙ sym (ap (λ (b : Bool). set (n .counts) y (cond b (min (sent + 1) 255) sent)) yes) in
+      w .5
+      ∙ ap (λ (q : Node). made q (q .processes) (mailShelf q) (record { cells = set (q .cells) (w .3 .result) signal; counts = set (q .counts) (w .1 .result) (w .4 .result) })) before
+      ∙ (λ i. made n (processes8 (c .before .before)) (mail9 (c .before)) (record { cells = cells i; counts = counts i })))
+      (λ w.
+      let no = w .0 .left in
+      let cells : n .cells ≡ flight .cells = sym (ap (λ (b : Bool). set (n .cells) at (cond b signal old)) no ∙ set-getD (n .cells) at noSignal) in
+      let counts : n .counts ≡ flight .counts = sym (ap (λ (b : Bool). set (n .counts) y (cond b (min (sent + 1) 255) sent)) no ∙ set-getD (n .counts) y 0) in
+      w .1 ∙ before ∙ (λ i. made n (processes8 (c .before .before)) (mail9 (c .before)) (record { cells = cells i; counts = counts i })))
+      (c .if10 .came)
+
+-- a birth, and an arrival, in a node
+abbrev birth-in : Node → ℕ → Process → Node
+birth-in q k p = made q (set (q .processes) k p) (record { cells = q .slots; counts = set (q .waiting) k 0 }) (flightShelf q)
+
+abbrev arrival-in : Node → ℕ → Cell → ℕ → Node
+arrival-in q r blank k =
+    made q (q .processes) (mailShelf q)
+    (record {
+      cells =
+          set
+          (set (set (set (q .cells) (4 * r) (getD (q .cells) (4 * r + 1) noSignal)) (4 * r + 1) (getD (q .cells) (4 * r + 2) noSignal)) (4 * r + 2) (getD (q .cells) (4 * r + 3) noSignal))
+          (4 * r + 3)
+          blank;
+      counts = set (q .counts) r k;
+    })
+
+loop-holds : tie.Need-loop-holds Inv-loop2 μ-loop2 Inv-messages μ-messages Inv-loop3 μ-loop3 Inv-loop μ-loop
+loop-holds c = (omega arith, (c .before) .pre, going ((c .before) .args .looks) ((c .before) .args .n) ((c .before) .args .numbers .now))
+
+mul-decode : tie.Need-mul-decode Inv-loop2 μ-loop2 Inv-messages μ-messages Inv-loop3 μ-loop3 Inv-loop μ-loop
+mul-decode c = search needs
+
+shared-slice-read-decode : tie.Need-shared-slice-read-decode Inv-loop2 μ-loop2 Inv-messages μ-messages Inv-loop3 μ-loop3 Inv-loop μ-loop
+shared-slice-read-decode c = (c .before) .loop-test .taken
+
+decode-requires : tie.Need-decode-requires Inv-loop2 μ-loop2 Inv-messages μ-messages Inv-loop3 μ-loop3 Inv-loop μ-loop
+decode-requires c κs = tt
+
+add-i : tie.Need-add-i Inv-loop2 μ-loop2 Inv-messages μ-messages Inv-loop3 μ-loop3 Inv-loop μ-loop
+add-i c = search needs
+
+mul-p : tie.Need-mul-p Inv-loop2 μ-loop2 Inv-messages μ-messages Inv-loop3 μ-loop3 Inv-loop μ-loop
+mul-p c = small (let h = c .decode .ensures .1 .0 in omega (arith, h))
+
+element-copy-out-p : tie.Need-element-copy-out-p Inv-loop2 μ-loop2 Inv-messages μ-messages Inv-loop3 μ-loop3 Inv-loop μ-loop
+element-copy-out-p c = c .decode .ensures .1 .0
+
+op-index-requires : tie.Need-op-index-requires Inv-loop2 μ-loop2 Inv-messages μ-messages Inv-loop3 μ-loop3 Inv-loop μ-loop
+op-index-requires c κs = tt
+
+mul-op : tie.Need-mul-op Inv-loop2 μ-loop2 Inv-messages μ-messages Inv-loop3 μ-loop3 Inv-loop μ-loop
+mul-op c = small (let h = c .op-index .ensures .1 in omega (arith, h))
+
+element-copy-out-op : tie.Need-element-copy-out-op Inv-loop2 μ-loop2 Inv-messages μ-messages Inv-loop3 μ-loop3 Inv-loop μ-loop
+element-copy-out-op c = c .op-index .ensures .1
+
+mul-oldest : tie.Need-mul-oldest Inv-loop2 μ-loop2 Inv-messages μ-messages Inv-loop3 μ-loop3 Inv-loop μ-loop
+mul-oldest c = small (let h = (c .before .before .before .before) .decode .ensures .1 .1 in omega (arith, h))
+
+mul-oldest-2 : tie.Need-mul-oldest-2 Inv-loop2 μ-loop2 Inv-messages μ-messages Inv-loop3 μ-loop3 Inv-loop μ-loop
+mul-oldest-2 c = small (let h = (c .before .before .before .before) .decode .ensures .1 .1 in omega (arith, h))
+
+element-copy-out-oldest : tie.Need-element-copy-out-oldest Inv-loop2 μ-loop2 Inv-messages μ-messages Inv-loop3 μ-loop3 Inv-loop μ-loop
+element-copy-out-oldest c = let h = (c .before .before .before .before) .decode .ensures .1 .1 in omega (arith, h)
+
+element-copy-out-waiting : tie.Need-element-copy-out-waiting Inv-loop2 μ-loop2 Inv-messages μ-messages Inv-loop3 μ-loop3 Inv-loop μ-loop
+element-copy-out-waiting c = (c .before .before .before .before .before) .decode .ensures .1 .0
+
+behaviour-index-requires : tie.Need-behaviour-index-requires Inv-loop2 μ-loop2 Inv-messages μ-messages Inv-loop3 μ-loop3 Inv-loop μ-loop
+behaviour-index-requires c κs = tt
+
+element-copy-out-decide : tie.Need-element-copy-out-decide Inv-loop2 μ-loop2 Inv-messages μ-messages Inv-loop3 μ-loop3 Inv-loop μ-loop
+element-copy-out-decide c = (c .before .before .before .before .before .before .before) .decode .ensures .1 .1
+
+element-copy-out-decide-2 : tie.Need-element-copy-out-decide-2 Inv-loop2 μ-loop2 Inv-messages μ-messages Inv-loop3 μ-loop3 Inv-loop μ-loop
+element-copy-out-decide-2 c = (c .before) .behaviour-index .ensures .1
+
+decide-requires : tie.Need-decide-requires Inv-loop2 μ-loop2 Inv-messages μ-messages Inv-loop3 μ-loop3 Inv-loop μ-loop
+decide-requires c κs = tt
+
+mul-m : tie.Need-mul-m Inv-loop2 μ-loop2 Inv-messages μ-messages Inv-loop3 μ-loop3 Inv-loop μ-loop
+mul-m c = small (let h = at-bound c in omega (arith, h))
+
+mul-top : tie.Need-mul-top Inv-loop2 μ-loop2 Inv-messages μ-messages Inv-loop3 μ-loop3 Inv-loop μ-loop
+mul-top c = small (let h = at-bound c in omega (arith, h))
+
+mul-top-2 : tie.Need-mul-top-2 Inv-loop2 μ-loop2 Inv-messages μ-messages Inv-loop3 μ-loop3 Inv-loop μ-loop
+mul-top-2 c = small (let h = at-bound (c .before) in omega (arith, h))
+
+up-to-requires : tie.Need-up-to-requires Inv-loop2 μ-loop2 Inv-messages μ-messages Inv-loop3 μ-loop3 Inv-loop μ-loop
+up-to-requires c κs = tt
+
+add-top : tie.Need-add-top Inv-loop2 μ-loop2 Inv-messages μ-messages Inv-loop3 μ-loop3 Inv-loop μ-loop
+add-top c = small (let h = at-bound (c .before .before) in let e = c .up-to .ensures in omega (arith, h, e))
+
+clauses-end-requires : tie.Need-clauses-end-requires Inv-loop2 μ-loop2 Inv-messages μ-messages Inv-loop3 μ-loop3 Inv-loop μ-loop
+clauses-end-requires c κs = x-bound (c .before .before)
+
+messages-holds : tie.Need-messages-holds Inv-loop2 μ-loop2 Inv-messages μ-messages Inv-loop3 μ-loop3 Inv-loop μ-loop
+messages-holds c =
+    let e : 16 * T (c .before .before .before) .at - 16 * T (c .before .before .before) .at ≡ 0 = omega arith in
+    (omega arith, omega arith, refl, rw e)
+
+mul-slot : tie.Need-mul-slot Inv-loop2 μ-loop2 Inv-messages μ-messages Inv-loop3 μ-loop3 Inv-loop μ-loop
+mul-slot c = small (let h = c .messages-test .taken in let a = at-bound (c .before .before .before .before .before) in let e = (c .before .before .before) .up-to .ensures in omega (arith, h, a, e))
+
+element-copy-out-slot : tie.Need-element-copy-out-slot Inv-loop2 μ-loop2 Inv-messages μ-messages Inv-loop3 μ-loop3 Inv-loop μ-loop
+element-copy-out-slot c = let h = c .messages-test .taken in let a = at-bound (c .before .before .before .before .before) in let e = (c .before .before .before) .up-to .ensures in omega
+    (arith, h, a, e)
+
+add-c : tie.Need-add-c Inv-loop2 μ-loop2 Inv-messages μ-messages Inv-loop3 μ-loop3 Inv-loop μ-loop
+add-c c = small (let h = x-bound (c .before .before .before .before .before .before) in omega (arith, h))
+
+loop2-holds : tie.Need-loop2-holds Inv-loop2 μ-loop2 Inv-messages μ-messages Inv-loop3 μ-loop3 Inv-loop μ-loop
+loop2-holds c =
+    let t = (c .before .before .before .before .before .before) in
+    let v = (c .before .before) .messages .inv in
+    let last = last-is t ((c .before .before .before .before .before) .if1 .taken) ((c .before .before .before .before) .up-to .result) ((c .before .before .before .before) .up-to .ensures) in
+    let f = message-at (N t) (N-sound t) (T t) (T-means t) (E t) (E-says t) ((c .before .before) .messages .m) (v .0) (subst (λ (k : ℕ). (c .before .before) .messages .m < k) last
+    ((c .before) .messages-test .taken)) (v .3) in
+    let s : x t + 1 ≡ behindOp t = ap (λ (k : ℕ). k + 1) (x-is t) in
+    let e : x t + 1 - behindOp t ≡ 0 = omega (arith, s) in
+    (omega (arith, s), refl, refl, rw e f)
+
+mul-clause : tie.Need-mul-clause Inv-loop2 μ-loop2 Inv-messages μ-messages Inv-loop3 μ-loop3 Inv-loop μ-loop
+mul-clause c = small (let h = c .loop2-test .taken in let e = (c .before .before .before .before .before) .clauses-end .ensures in omega (arith, h, e))
+
+element-copy-out-clause : tie.Need-element-copy-out-clause Inv-loop2 μ-loop2 Inv-messages μ-messages Inv-loop3 μ-loop3 Inv-loop μ-loop
+element-copy-out-clause c = let h = c .loop2-test .taken in let e = (c .before .before .before .before .before) .clauses-end .ensures in omega (arith, h, e)
+
+fits-requires : tie.Need-fits-requires Inv-loop2 μ-loop2 Inv-messages μ-messages Inv-loop3 μ-loop3 Inv-loop μ-loop
+fits-requires c κs = tt
+
+taken-requires : tie.Need-taken-requires Inv-loop2 μ-loop2 Inv-messages μ-messages Inv-loop3 μ-loop3 Inv-loop μ-loop
+taken-requires c κs = tt
+
+add-c-2 : tie.Need-add-c-2 Inv-loop2 μ-loop2 Inv-messages μ-messages Inv-loop3 μ-loop3 Inv-loop μ-loop
+add-c-2 c = small (let h = (c .before .before .before) .loop2-test .taken in let e = (c .before .before .before .before .before .before .before .before) .clauses-end .ensures in omega (arith, h, e))
+
+loop2-less : tie.Need-loop2-less Inv-loop2 μ-loop2 Inv-messages μ-messages Inv-loop3 μ-loop3 Inv-loop μ-loop
+loop2-less c = let h = (c .before .before .before) .loop2-test .taken in omega (arith, h)
+
+loop2-again : tie.Need-loop2-again Inv-loop2 μ-loop2 Inv-messages μ-messages Inv-loop3 μ-loop3 Inv-loop μ-loop
+loop2-again c =
+    let t = (c .before .before .before .before .before .before .before .before .before .before .before) in
+    let v = (c .before .before .before .before) .loop2 .inv in
+    let low = v .0 in
+    let last = last-is t ((c .before .before .before .before .before .before .before .before .before .before) .if1 .taken)
+    ((c .before .before .before .before .before .before .before .before .before) .up-to .result) ((c .before .before .before .before .before .before .before .before .before) .up-to .ensures) in
+    let below = subst (λ (k : ℕ). (c .before .before .before .before .before .before .before) .messages .m < k) last ((c .before .before .before .before .before .before) .messages-test .taken) in
+    let high = subst (λ (k : ℕ). (c .before .before .before .before) .loop2 .c < k) (end-is t ((c .before .before .before .before .before .before .before .before) .clauses-end .result)
+    ((c .before .before .before .before .before .before .before .before) .clauses-end .ensures)) ((c .before .before .before) .loop2-test .taken) in
+    let f = sym ((c .before) .fits2 .ensures) ∙ c .if2 .left in (
+      omega (arith, low),
+      v .1,
+      v .2,
+      missed (N t) (N-sound t) (T t) (T-means t) (E t) (E-says t) ((c .before .before .before .before .before .before .before) .messages .m)
+          ((c .before .before .before .before) .loop2 .c) ((c .before .before .before .before .before .before .before) .messages .inv .0) below low high f (v .3),
+    )
+
+add-m : tie.Need-add-m Inv-loop2 μ-loop2 Inv-messages μ-messages Inv-loop3 μ-loop3 Inv-loop μ-loop
+add-m c = small (let h = (c .before .before .before) .messages-test .taken in let a = at-bound (c .before .before .before .before .before .before .before .before) in let e =
+    (c .before .before .before .before .before .before) .up-to .ensures in omega (arith, h, a, e))
+
+messages-less : tie.Need-messages-less Inv-loop2 μ-loop2 Inv-messages μ-messages Inv-loop3 μ-loop3 Inv-loop μ-loop
+messages-less c = let h = (c .before .before .before) .messages-test .taken in omega (arith, h)
+
+messages-again : tie.Need-messages-again Inv-loop2 μ-loop2 Inv-messages μ-messages Inv-loop3 μ-loop3 Inv-loop μ-loop
+messages-again c =
+    let t = (c .before .before .before .before .before .before .before .before) in
+    let v = (c .before) .loop2 .inv in
+    let o = (c .before .before .before .before) .messages .inv in
+    let from = o .0 in
+    let inside = (c .before .before .before) .messages-test .taken in
+    let last = last-is t ((c .before .before .before .before .before .before .before) .if1 .taken) ((c .before .before .before .before .before .before) .up-to .result)
+    ((c .before .before .before .before .before .before) .up-to .ensures) in
+    let below = subst (λ (k : ℕ). (c .before .before .before .before) .messages .m < k) last inside in
+    let high = subst (λ (k : ℕ). k ≤ (c .before) .loop2 .c) (end-is t ((c .before .before .before .before .before) .clauses-end .result)
+    ((c .before .before .before .before .before) .clauses-end .ensures)) (c .loop2-test .left) in (
+      omega (arith, from),
+      omega (arith, inside),
+      v .1 ∙ o .2,
+      passed (N t) (N-sound t) (T t) (T-means t) (E t) (E-says t) ((c .before .before .before .before) .messages .m) ((c .before) .loop2 .c)
+          from below (v .0) high (v .3),
+    )
+
+row-index-requires : tie.Need-row-index-requires Inv-loop2 μ-loop2 Inv-messages μ-messages Inv-loop3 μ-loop3 Inv-loop μ-loop
+row-index-requires c κs = tt
+
+element-copy-out-pair-refusal : tie.Need-element-copy-out-pair-refusal Inv-loop2 μ-loop2 Inv-messages μ-messages Inv-loop3 μ-loop3 Inv-loop μ-loop
+element-copy-out-pair-refusal c = c .row-index .ensures .1
+
+pair-refusal-requires : tie.Need-pair-refusal-requires Inv-loop2 μ-loop2 Inv-messages μ-messages Inv-loop3 μ-loop3 Inv-loop μ-loop
+pair-refusal-requires c κs = tt
+
+process-index-requires : tie.Need-process-index-requires Inv-loop2 μ-loop2 Inv-messages μ-messages Inv-loop3 μ-loop3 Inv-loop μ-loop
+process-index-requires c κs = tt
+
+mul-birth-refusal : tie.Need-mul-birth-refusal Inv-loop2 μ-loop2 Inv-messages μ-messages Inv-loop3 μ-loop3 Inv-loop μ-loop
+mul-birth-refusal c = small (let h = c .process-index .ensures .1 in omega (arith, h))
+
+element-copy-out-birth-refusal : tie.Need-element-copy-out-birth-refusal Inv-loop2 μ-loop2 Inv-messages μ-messages Inv-loop3 μ-loop3 Inv-loop μ-loop
+element-copy-out-birth-refusal c = c .process-index .ensures .1
+
+birth-refusal-requires : tie.Need-birth-refusal-requires Inv-loop2 μ-loop2 Inv-messages μ-messages Inv-loop3 μ-loop3 Inv-loop μ-loop
+birth-refusal-requires c κs = tt
+
+loop-less : tie.Need-loop-less Inv-loop2 μ-loop2 Inv-messages μ-messages Inv-loop3 μ-loop3 Inv-loop μ-loop
+loop-less c = let h = in-list (c .before .before .before .before .before) in omega (arith, h)
+
+loop-again : tie.Need-loop-again Inv-loop2 μ-loop2 Inv-messages μ-messages Inv-loop3 μ-loop3 Inv-loop μ-loop
+loop-again c = looks-on (c .before .before .before .before .before) (c .if6 .taken) _ (refuses (c .before .before) ((c .before) .if5 .taken))
+
+ended-requires : tie.Need-ended-requires Inv-loop2 μ-loop2 Inv-messages μ-messages Inv-loop3 μ-loop3 Inv-loop μ-loop
+ended-requires c κs = tt
+
+returns : tie.Need-returns Inv-loop2 μ-loop2 Inv-messages μ-messages Inv-loop3 μ-loop3 Inv-loop μ-loop
+returns c =
+    let t = (c .before .before .before .before .before .before) in
+    let q = (c .before) .if6 .left in (
+      λ _. c .ended .ensures ∙ stop (numbers t) (count t) (N t) _ (in-list t) (N-sound t) (played-on t q) (refuses (c .before .before .before) ((c .before .before) .if5 .taken)),
+      λ e. absurd (false≢true (sym q ∙ e)),
+    )
+
+ended-requires-2 : tie.Need-ended-requires-2 Inv-loop2 μ-loop2 Inv-messages μ-messages Inv-loop3 μ-loop3 Inv-loop μ-loop
+ended-requires-2 c κs = tt
+
+returns-2 : tie.Need-returns-2 Inv-loop2 μ-loop2 Inv-messages μ-messages Inv-loop3 μ-loop3 Inv-loop μ-loop
+returns-2 c =
+    let t = (c .before .before .before .before .before .before) in
+    let q = (c .before) .if7 .taken in (
+      λ e. absurd (false≢true (sym e ∙ q)),
+      λ _. ap (λ (r : Outcome). r .accepted) (c .ended2 .ensures) ∙ look-stop (n₀ t) (numbers t) (count t) (N t) (N-sound t) (looked t q) _ (in-list t)
+          (commits (c .before .before .before) ((c .before .before) .if5 .left) .answer),
+    )
+
+mul-next : tie.Need-mul-next Inv-loop2 μ-loop2 Inv-messages μ-messages Inv-loop3 μ-loop3 Inv-loop μ-loop
+mul-next c = small (let h = at-bound (c .before .before .before .before .before) in omega (arith, h))
+
+element-set-from-next : tie.Need-element-set-from-next Inv-loop2 μ-loop2 Inv-messages μ-messages Inv-loop3 μ-loop3 Inv-loop μ-loop
+element-set-from-next c = at-bound (c .before .before .before .before .before)
+
+fallen-requires : tie.Need-fallen-requires Inv-loop2 μ-loop2 Inv-messages μ-messages Inv-loop3 μ-loop3 Inv-loop μ-loop
+fallen-requires c κs = tt
+
+element-write-node : tie.Need-element-write-node Inv-loop2 μ-loop2 Inv-messages μ-messages Inv-loop3 μ-loop3 Inv-loop μ-loop
+element-write-node c = at-bound (c .before .before .before .before .before .before .before)
+
+loop3-holds : tie.Need-loop3-holds Inv-loop2 μ-loop2 Inv-messages μ-messages Inv-loop3 μ-loop3 Inv-loop μ-loop
+loop3-holds c =
+    let b = last-bound (c .before .before .before .before .before .before .before) in
+    let h = ends (c .before .before .before .before .before .before) .within in
+    (omega (arith, b, h), refl, moved-start _ _ _)
+
+add-loop3 : tie.Need-add-loop3 Inv-loop2 μ-loop2 Inv-messages μ-messages Inv-loop3 μ-loop3 Inv-loop μ-loop
+add-loop3 c = small (let h = c .loop3 .inv .0 in omega (arith, h))
+
+add-slot : tie.Need-add-slot Inv-loop2 μ-loop2 Inv-messages μ-messages Inv-loop3 μ-loop3 Inv-loop μ-loop
+add-slot c = small (let h = (c .before) .loop3 .inv .0 in omega (arith, h))
+
+mul-slot-2 : tie.Need-mul-slot-2 Inv-loop2 μ-loop2 Inv-messages μ-messages Inv-loop3 μ-loop3 Inv-loop μ-loop
+mul-slot-2 c = small (let h = c .loop3-test .taken in let b = last-bound (c .before .before .before .before .before .before .before .before .before) in let e = ends
+    (c .before .before .before .before .before .before .before .before) .last in omega (arith, h, b, e))
+
+element-copy-out-slot-2 : tie.Need-element-copy-out-slot-2 Inv-loop2 μ-loop2 Inv-messages μ-messages Inv-loop3 μ-loop3 Inv-loop μ-loop
+element-copy-out-slot-2 c = let h = c .loop3-test .taken in let b = last-bound (c .before .before .before .before .before .before .before .before .before) in let e = ends
+    (c .before .before .before .before .before .before .before .before) .last in omega (arith, h, b, e)
+
+mul-slot-3 : tie.Need-mul-slot-3 Inv-loop2 μ-loop2 Inv-messages μ-messages Inv-loop3 μ-loop3 Inv-loop μ-loop
+mul-slot-3 c = small (let h = (c .before .before) .loop3 .inv .0 in omega (arith, h))
+
+element-set-from-slot : tie.Need-element-set-from-slot Inv-loop2 μ-loop2 Inv-messages μ-messages Inv-loop3 μ-loop3 Inv-loop μ-loop
+element-set-from-slot c = let h = (c .before) .loop3-test .taken in let b = last-bound (c .before .before .before .before .before .before .before .before .before .before) in let e = ends
+    (c .before .before .before .before .before .before .before .before .before) .last in omega (arith, h, b, e)
+
+add-m-2 : tie.Need-add-m-2 Inv-loop2 μ-loop2 Inv-messages μ-messages Inv-loop3 μ-loop3 Inv-loop μ-loop
+add-m-2 c = small (let h = (c .before .before) .loop3 .inv .0 in omega (arith, h))
+
+loop3-less : tie.Need-loop3-less Inv-loop2 μ-loop2 Inv-messages μ-messages Inv-loop3 μ-loop3 Inv-loop μ-loop
+loop3-less c = let h = (c .before) .loop3-test .taken in omega (arith, h)
+
+loop3-again : tie.Need-loop3-again Inv-loop2 μ-loop2 Inv-messages μ-messages Inv-loop3 μ-loop3 Inv-loop μ-loop
+loop3-again c =
+    let t = (c .before .before .before .before .before .before .before .before .before .before) in
+    let v = (c .before .before) .loop3 .inv in
+    let h = (c .before) .loop3-test .taken in
+    let b = last-bound t in
+    let e = ends (c .before .before .before .before .before .before .before .before .before) .last in
+    let size : length (N t .slots) ≡ 256 = parts-of (N t) (N-sound t) .sized .mail .cells in
+    let room : (c .before .before .before .before .before .before .before .before .before) .if1 .top ≤ length (N t .slots) = subst
+    (λ (k : ℕ). (c .before .before .before .before .before .before .before .before .before) .if1 .top ≤ k) (sym size) (omega (arith, b, e)) in
+    let q = (c .before .before) .loop3 .node in
+    let slots = set (q .slots) ((c .before .before) .loop3 .m) (getD (q .slots) ((c .before .before) .loop3 .m + 1) noMessage) in
+    (omega (arith, h, b, e), ap (λ (k : Node). withSlots k slots) (v .1), moved-more noMessage (v .2) h room)
+
+mul-join : tie.Need-mul-join Inv-loop2 μ-loop2 Inv-messages μ-messages Inv-loop3 μ-loop3 Inv-loop μ-loop
+mul-join c = small (let h = at-bound (c .before .before .before .before .before .before .before) in omega (arith, h))
+
+up-to-requires-2 : tie.Need-up-to-requires-2 Inv-loop2 μ-loop2 Inv-messages μ-messages Inv-loop3 μ-loop3 Inv-loop μ-loop
+up-to-requires-2 c κs = tt
+
+add-join : tie.Need-add-join Inv-loop2 μ-loop2 Inv-messages μ-messages Inv-loop3 μ-loop3 Inv-loop μ-loop
+add-join c = small (let h = at-bound (c .before .before .before .before .before .before .before .before) in let e = c .up-to2 .ensures in omega (arith, h, e))
+
+mul-t104 : tie.Need-mul-t104 Inv-loop2 μ-loop2 Inv-messages μ-messages Inv-loop3 μ-loop3 Inv-loop μ-loop
+mul-t104 c = small (let h = at-bound (c .before .before .before .before .before .before .before .before) in let e = c .up-to2 .ensures in omega (arith, h, e))
+
+element-set-from-node : tie.Need-element-set-from-node Inv-loop2 μ-loop2 Inv-messages μ-messages Inv-loop3 μ-loop3 Inv-loop μ-loop
+element-set-from-node c = let h = at-bound (c .before .before .before .before .before .before .before .before) in let e = c .up-to2 .ensures in omega (arith, h, e)
+
+risen-requires : tie.Need-risen-requires Inv-loop2 μ-loop2 Inv-messages μ-messages Inv-loop3 μ-loop3 Inv-loop μ-loop
+risen-requires c κs = tt
+
+element-write-node-2 : tie.Need-element-write-node-2 Inv-loop2 μ-loop2 Inv-messages μ-messages Inv-loop3 μ-loop3 Inv-loop μ-loop
+element-write-node-2 c = at-bound (c .before .before .before .before .before .before .before .before .before)
+
+row-index-requires-2 : tie.Need-row-index-requires-2 Inv-loop2 μ-loop2 Inv-messages μ-messages Inv-loop3 μ-loop3 Inv-loop μ-loop
+row-index-requires-2 c κs = tt
+
+element-copy-out-sent : tie.Need-element-copy-out-sent Inv-loop2 μ-loop2 Inv-messages μ-messages Inv-loop3 μ-loop3 Inv-loop μ-loop
+element-copy-out-sent c = c .row-index2 .ensures .1
+
+cell-index-requires : tie.Need-cell-index-requires Inv-loop2 μ-loop2 Inv-messages μ-messages Inv-loop3 μ-loop3 Inv-loop μ-loop
+cell-index-requires c κs = (c .before) .row-index2 .ensures .1
+
+mul-t116 : tie.Need-mul-t116 Inv-loop2 μ-loop2 Inv-messages μ-messages Inv-loop3 μ-loop3 Inv-loop μ-loop
+mul-t116 c = small (let h = c .cell-index .ensures .1 in omega (arith, h))
+
+element-set-from-node-2 : tie.Need-element-set-from-node-2 Inv-loop2 μ-loop2 Inv-messages μ-messages Inv-loop3 μ-loop3 Inv-loop μ-loop
+element-set-from-node-2 c = c .cell-index .ensures .1
+
+risen-requires-2 : tie.Need-risen-requires-2 Inv-loop2 μ-loop2 Inv-messages μ-messages Inv-loop3 μ-loop3 Inv-loop μ-loop
+risen-requires-2 c κs = tt
+
+element-write-node-3 : tie.Need-element-write-node-3 Inv-loop2 μ-loop2 Inv-messages μ-messages Inv-loop3 μ-loop3 Inv-loop μ-loop
+element-write-node-3 c = (c .before .before .before) .row-index2 .ensures .1
+
+process-index-requires-2 : tie.Need-process-index-requires-2 Inv-loop2 μ-loop2 Inv-messages μ-messages Inv-loop3 μ-loop3 Inv-loop μ-loop
+process-index-requires-2 c κs = tt
+
+fresh-requires : tie.Need-fresh-requires Inv-loop2 μ-loop2 Inv-messages μ-messages Inv-loop3 μ-loop3 Inv-loop μ-loop
+fresh-requires c κs = tt
+
+mul-t123 : tie.Need-mul-t123 Inv-loop2 μ-loop2 Inv-messages μ-messages Inv-loop3 μ-loop3 Inv-loop μ-loop
+mul-t123 c = small (let h = (c .before .before) .process-index2 .ensures .1 in omega (arith, h))
+
+element-set-from-node-3 : tie.Need-element-set-from-node-3 Inv-loop2 μ-loop2 Inv-messages μ-messages Inv-loop3 μ-loop3 Inv-loop μ-loop
+element-set-from-node-3 c = (c .before .before) .process-index2 .ensures .1
+
+element-write-node-4 : tie.Need-element-write-node-4 Inv-loop2 μ-loop2 Inv-messages μ-messages Inv-loop3 μ-loop3 Inv-loop μ-loop
+element-write-node-4 c = (c .before .before) .process-index2 .ensures .1
+
+loop-less-2 : tie.Need-loop-less-2 Inv-loop2 μ-loop2 Inv-messages μ-messages Inv-loop3 μ-loop3 Inv-loop μ-loop
+loop-less-2 c = let h = in-list (c .before .before .before .before .before .before .before .before .before .before .before .before) in omega (arith, h)
+
+loop-again-2 : tie.Need-loop-again-2 Inv-loop2 μ-loop2 Inv-messages μ-messages Inv-loop3 μ-loop3 Inv-loop μ-loop
+loop-again-2 c =
+    let t = (c .before .before .before .before .before .before .before .before .before .before .before .before) in
+    let w = commits (c .before .before .before .before .before .before .before .before .before) ((c .before .before .before .before .before .before .before .before) .if5 .left) in
+    plays-on t ((c .before .before .before .before .before .before .before) .if7 .left) _ _
+    ((λ i. birth-in (stored-is (c .before .before .before .before) i) ((c .before .before) .process-index2 .ensures .0 i) (c .fresh .ensures i)) ∙ stored-birth (N t) (N-sound t) (T t) (T-means t)
+    (E t) (E-says t) (w .cleared) w ((c .before .before .before) .if11 .taken))
+    (w .answer)
+
+mul-f : tie.Need-mul-f Inv-loop2 μ-loop2 Inv-messages μ-messages Inv-loop3 μ-loop3 Inv-loop μ-loop
+mul-f c = small (let h = arrival-bound (c .before .before .before .before .before .before .before .before .before .before) in omega (arith, h))
+
+add-c1 : tie.Need-add-c1 Inv-loop2 μ-loop2 Inv-messages μ-messages Inv-loop3 μ-loop3 Inv-loop μ-loop
+add-c1 c = small (let h = arrival-bound (c .before .before .before .before .before .before .before .before .before .before) in omega (arith, h))
+
+mul-c1 : tie.Need-mul-c1 Inv-loop2 μ-loop2 Inv-messages μ-messages Inv-loop3 μ-loop3 Inv-loop μ-loop
+mul-c1 c = small (let h = arrival-bound (c .before .before .before .before .before .before .before .before .before .before) in omega (arith, h))
+
+element-copy-out-c1 : tie.Need-element-copy-out-c1 Inv-loop2 μ-loop2 Inv-messages μ-messages Inv-loop3 μ-loop3 Inv-loop μ-loop
+element-copy-out-c1 c = let h = arrival-bound (c .before .before .before .before .before .before .before .before .before .before) in omega (arith, h)
+
+add-c2 : tie.Need-add-c2 Inv-loop2 μ-loop2 Inv-messages μ-messages Inv-loop3 μ-loop3 Inv-loop μ-loop
+add-c2 c = small (let h = arrival-bound (c .before .before .before .before .before .before .before .before .before .before .before) in omega (arith, h))
+
+mul-c2 : tie.Need-mul-c2 Inv-loop2 μ-loop2 Inv-messages μ-messages Inv-loop3 μ-loop3 Inv-loop μ-loop
+mul-c2 c = small (let h = arrival-bound (c .before .before .before .before .before .before .before .before .before .before .before) in omega (arith, h))
+
+element-copy-out-c2 : tie.Need-element-copy-out-c2 Inv-loop2 μ-loop2 Inv-messages μ-messages Inv-loop3 μ-loop3 Inv-loop μ-loop
+element-copy-out-c2 c = let h = arrival-bound (c .before .before .before .before .before .before .before .before .before .before .before) in omega (arith, h)
+
+add-c3 : tie.Need-add-c3 Inv-loop2 μ-loop2 Inv-messages μ-messages Inv-loop3 μ-loop3 Inv-loop μ-loop
+add-c3 c = small (let h = arrival-bound (c .before .before .before .before .before .before .before .before .before .before .before .before) in omega (arith, h))
+
+mul-c3 : tie.Need-mul-c3 Inv-loop2 μ-loop2 Inv-messages μ-messages Inv-loop3 μ-loop3 Inv-loop μ-loop
+mul-c3 c = small (let h = arrival-bound (c .before .before .before .before .before .before .before .before .before .before .before .before) in omega (arith, h))
+
+element-copy-out-c3 : tie.Need-element-copy-out-c3 Inv-loop2 μ-loop2 Inv-messages μ-messages Inv-loop3 μ-loop3 Inv-loop μ-loop
+element-copy-out-c3 c = let h = arrival-bound (c .before .before .before .before .before .before .before .before .before .before .before .before) in omega (arith, h)
+
+mul-c1-2 : tie.Need-mul-c1-2 Inv-loop2 μ-loop2 Inv-messages μ-messages Inv-loop3 μ-loop3 Inv-loop μ-loop
+mul-c1-2 c = small (let h = arrival-bound (c .before .before .before .before .before .before .before .before .before .before .before .before .before) in omega (arith, h))
+
+element-set-from-c1 : tie.Need-element-set-from-c1 Inv-loop2 μ-loop2 Inv-messages μ-messages Inv-loop3 μ-loop3 Inv-loop μ-loop
+element-set-from-c1 c = let h = arrival-bound (c .before .before .before .before .before .before .before .before .before .before .before .before .before) in omega (arith, h)
+
+add-c2-2 : tie.Need-add-c2-2 Inv-loop2 μ-loop2 Inv-messages μ-messages Inv-loop3 μ-loop3 Inv-loop μ-loop
+add-c2-2 c = small (let h = arrival-bound (c .before .before .before .before .before .before .before .before .before .before .before .before .before) in omega (arith, h))
+
+mul-c2-2 : tie.Need-mul-c2-2 Inv-loop2 μ-loop2 Inv-messages μ-messages Inv-loop3 μ-loop3 Inv-loop μ-loop
+mul-c2-2 c = small (let h = arrival-bound (c .before .before .before .before .before .before .before .before .before .before .before .before .before) in omega (arith, h))
+
+element-set-from-c2 : tie.Need-element-set-from-c2 Inv-loop2 μ-loop2 Inv-messages μ-messages Inv-loop3 μ-loop3 Inv-loop μ-loop
+element-set-from-c2 c = let h = arrival-bound (c .before .before .before .before .before .before .before .before .before .before .before .before .before) in omega (arith, h)
+
+add-c3-2 : tie.Need-add-c3-2 Inv-loop2 μ-loop2 Inv-messages μ-messages Inv-loop3 μ-loop3 Inv-loop μ-loop
+add-c3-2 c = small (let h = arrival-bound (c .before .before .before .before .before .before .before .before .before .before .before .before .before) in omega (arith, h))
+
+mul-c3-2 : tie.Need-mul-c3-2 Inv-loop2 μ-loop2 Inv-messages μ-messages Inv-loop3 μ-loop3 Inv-loop μ-loop
+mul-c3-2 c = small (let h = arrival-bound (c .before .before .before .before .before .before .before .before .before .before .before .before .before) in omega (arith, h))
+
+element-set-from-c3 : tie.Need-element-set-from-c3 Inv-loop2 μ-loop2 Inv-messages μ-messages Inv-loop3 μ-loop3 Inv-loop μ-loop
+element-set-from-c3 c = let h = arrival-bound (c .before .before .before .before .before .before .before .before .before .before .before .before .before) in omega (arith, h)
+
+blank-requires : tie.Need-blank-requires Inv-loop2 μ-loop2 Inv-messages μ-messages Inv-loop3 μ-loop3 Inv-loop μ-loop
+blank-requires c κs = tt
+
+add-t128 : tie.Need-add-t128 Inv-loop2 μ-loop2 Inv-messages μ-messages Inv-loop3 μ-loop3 Inv-loop μ-loop
+add-t128 c = small (let h = arrival-bound (c .before .before .before .before .before .before .before .before .before .before .before .before .before .before) in omega (arith, h))
+
+mul-t129 : tie.Need-mul-t129 Inv-loop2 μ-loop2 Inv-messages μ-messages Inv-loop3 μ-loop3 Inv-loop μ-loop
+mul-t129 c = small (let h = arrival-bound (c .before .before .before .before .before .before .before .before .before .before .before .before .before .before) in omega (arith, h))
+
+element-set-from-node-4 : tie.Need-element-set-from-node-4 Inv-loop2 μ-loop2 Inv-messages μ-messages Inv-loop3 μ-loop3 Inv-loop μ-loop
+element-set-from-node-4 c = let h = arrival-bound (c .before .before .before .before .before .before .before .before .before .before .before .before .before .before) in omega (arith, h)
+
+element-copy-out-fallen : tie.Need-element-copy-out-fallen Inv-loop2 μ-loop2 Inv-messages μ-messages Inv-loop3 μ-loop3 Inv-loop μ-loop
+element-copy-out-fallen c = arrival-bound (c .before .before .before .before .before .before .before .before .before .before .before .before .before .before)
+
+fallen-requires-2 : tie.Need-fallen-requires-2 Inv-loop2 μ-loop2 Inv-messages μ-messages Inv-loop3 μ-loop3 Inv-loop μ-loop
+fallen-requires-2 c κs = tt
+
+element-write-node-5 : tie.Need-element-write-node-5 Inv-loop2 μ-loop2 Inv-messages μ-messages Inv-loop3 μ-loop3 Inv-loop μ-loop
+element-write-node-5 c = arrival-bound (c .before .before .before .before .before .before .before .before .before .before .before .before .before .before .before .before)
+
+loop-less-3 : tie.Need-loop-less-3 Inv-loop2 μ-loop2 Inv-messages μ-messages Inv-loop3 μ-loop3 Inv-loop μ-loop
+loop-less-3 c = let h = in-list (c .before .before .before .before .before .before .before .before .before .before .before .before .before .before .before .before) in omega (arith, h)
+
+loop-again-3 : tie.Need-loop-again-3 Inv-loop2 μ-loop2 Inv-messages μ-messages Inv-loop3 μ-loop3 Inv-loop μ-loop
+loop-again-3 c =
+    let t = (c .before .before .before .before .before .before .before .before .before .before .before .before .before .before .before .before) in
+    let w = commits (c .before .before .before .before .before .before .before .before .before .before .before .before .before)
+    ((c .before .before .before .before .before .before .before .before .before .before .before .before) .if5 .left) in
+    let fewer = c .fallen2 .ensures ∙ ap (λ (q : Node). getD (q .counts) (T t .row) 0 - 1) (stored-is (c .before .before .before .before .before .before .before .before)) in
+    plays-on t ((c .before .before .before .before .before .before .before .before .before .before .before) .if7 .left) _ _
+    ((λ i. arrival-in (stored-is (c .before .before .before .before .before .before .before .before) i) (T t .row) ((c .before .before) .blank .ensures i) (fewer i))
+    ∙ stored-arrival (N t) (N-sound t) (T t) (T-means t) (E t) (E-says t) (w .cleared) w (arrival-bound t) ((c .before .before .before .before .before .before) .if12 .taken)
+    ((c .before .before .before .before .before .before .before) .if11 .left))
+    (w .answer)
+
+loop-less-4 : tie.Need-loop-less-4 Inv-loop2 μ-loop2 Inv-messages μ-messages Inv-loop3 μ-loop3 Inv-loop μ-loop
+loop-less-4 c = let h = in-list (c .before .before .before .before .before .before .before .before .before .before) in omega (arith, h)
+
+loop-again-4 : tie.Need-loop-again-4 Inv-loop2 μ-loop2 Inv-messages μ-messages Inv-loop3 μ-loop3 Inv-loop μ-loop
+loop-again-4 c =
+    let t = (c .before .before .before .before .before .before .before .before .before .before) in
+    let w = commits (c .before .before .before .before .before .before .before) ((c .before .before .before .before .before .before) .if5 .left) in
+    plays-on t ((c .before .before .before .before .before) .if7 .left) _ _
+    (stored-is (c .before .before) ∙ stored-run (N t) (N-sound t) (T t) (T-means t) (E t) (E-says t) (w .cleared) w (c .if12 .left) ((c .before) .if11 .left))
+    (w .answer)
+
+ended-requires-3 : tie.Need-ended-requires-3 Inv-loop2 μ-loop2 Inv-messages μ-messages Inv-loop3 μ-loop3 Inv-loop μ-loop
+ended-requires-3 c κs = tt
+
+returns-3 : tie.Need-returns-3 Inv-loop2 μ-loop2 Inv-messages μ-messages Inv-loop3 μ-loop3 Inv-loop μ-loop
+returns-3 c =
+    let v = (c .before .before) .loop .inv in
+    let h = (c .before) .loop-test .left in
+    let n = (c .before .before .before .before) .args .n in
+    let l = (c .before .before .before .before) .args .numbers .now in (
+      λ e. c .ended3 .ensures ∙ over l ((c .before .before) .loop .i) ((c .before .before) .loop .node) h
+          (subst (λ (b : Bool). Going b n l ((c .before .before) .loop .i) ((c .before .before) .loop .node)) e (v .2)),
+      λ e. ap (λ (r : Outcome). r .accepted) (c .ended3 .ensures) ∙ look-over n l ((c .before .before) .loop .i) ((c .before .before) .loop .node) (v .1)
+          (subst (λ (b : Bool). Going b n l ((c .before .before) .loop .i) ((c .before .before) .loop .node)) e (v .2)) h,
+    )
+
+pub core-spec : {M : Type 1} → statement M
+core-spec =
+    tie.close
+    (tie.spec
+    Inv-loop2
+    μ-loop2
+    Inv-messages
+    μ-messages
+    Inv-loop3
+    μ-loop3
+    Inv-loop
+    μ-loop
+    loop-holds
+    mul-decode
+    shared-slice-read-decode
+    decode-requires
+    add-i
+    mul-p
+    element-copy-out-p
+    op-index-requires
+    mul-op
+    element-copy-out-op
+    mul-oldest
+    mul-oldest-2
+    element-copy-out-oldest
+    element-copy-out-waiting
+    behaviour-index-requires
+    element-copy-out-decide
+    element-copy-out-decide-2
+    decide-requires
+    mul-m
+    mul-top
+    mul-top-2
+    up-to-requires
+    add-top
+    clauses-end-requires
+    messages-holds
+    mul-slot
+    element-copy-out-slot
+    add-c
+    loop2-holds
+    mul-clause
+    element-copy-out-clause
+    fits-requires
+    taken-requires
+    add-c-2
+    loop2-less
+    loop2-again
+    add-m
+    messages-less
+    messages-again
+    row-index-requires
+    element-copy-out-pair-refusal
+    pair-refusal-requires
+    process-index-requires
+    mul-birth-refusal
+    element-copy-out-birth-refusal
+    birth-refusal-requires
+    loop-less
+    loop-again
+    ended-requires
+    returns
+    ended-requires-2
+    returns-2
+    mul-next
+    element-set-from-next
+    fallen-requires
+    element-write-node
+    loop3-holds
+    add-loop3
+    add-slot
+    mul-slot-2
+    element-copy-out-slot-2
+    mul-slot-3
+    element-set-from-slot
+    add-m-2
+    loop3-less
+    loop3-again
+    mul-join
+    up-to-requires-2
+    add-join
+    mul-t104
+    element-set-from-node
+    risen-requires
+    element-write-node-2
+    row-index-requires-2
+    element-copy-out-sent
+    cell-index-requires
+    mul-t116
+    element-set-from-node-2
+    risen-requires-2
+    element-write-node-3
+    process-index-requires-2
+    fresh-requires
+    mul-t123
+    element-set-from-node-3
+    element-write-node-4
+    loop-less-2
+    loop-again-2
+    mul-f
+    add-c1
+    mul-c1
+    element-copy-out-c1
+    add-c2
+    mul-c2
+    element-copy-out-c2
+    add-c3
+    mul-c3
+    element-copy-out-c3
+    mul-c1-2
+    element-set-from-c1
+    add-c2-2
+    mul-c2-2
+    element-set-from-c2
+    add-c3-2
+    mul-c3-2
+    element-set-from-c3
+    blank-requires
+    add-t128
+    mul-t129
+    element-set-from-node-4
+    element-copy-out-fallen
+    fallen-requires-2
+    element-write-node-5
+    loop-less-3
+    loop-again-3
+    loop-less-4
+    loop-again-4
+    ended-requires-3
+    returns-3)

@@ -1,0 +1,70 @@
+-- The loop over the possible steps: the numbers of those before k stand in their places. Assumes nothing.
+use mathlib.Core.Path.{_≡_, refl, _∙_, ap}
+use Prim.Native.Nat.{_-_, _≤_}
+use native.Mathlib.Omega.{arith}
+use borrow.Author.Needs.{needs}
+use lib.ListN.{length, length-set}
+use Rattle.actions.specs.Numbers.{encode}
+use Rattle.engine.proofs.Calls.{Filled, filled-more, filled-all}
+use Rattle.engine.proofs.possible_numbers.Statement.{statement}
+use Rattle.engine.proofs.possible_numbers.Tie as tie
+
+abbrev Inv-loop : tie.InvT-loop
+Inv-loop numbers₀ k₀ numbers k = (k ≤ 272) × (length numbers ≡ 272) × Filled numbers k
+
+abbrev μ-loop : tie.MeasureT-loop
+μ-loop numbers₀ k₀ numbers k = 272 - k
+
+loop-holds : tie.Need-loop-holds Inv-loop μ-loop
+loop-holds c = (omega arith, refl, λ j h. absurd (omega (arith, h)))
+
+cast-possible : tie.Need-cast-possible Inv-loop μ-loop
+cast-possible c = search (needs, c .loop-test .taken)
+
+possible-requires : tie.Need-possible-requires Inv-loop μ-loop
+possible-requires c κs = c .loop-test .taken
+
+encode-requires : tie.Need-encode-requires Inv-loop μ-loop
+encode-requires c κs = tt
+
+mul-numbers : tie.Need-mul-numbers Inv-loop μ-loop
+mul-numbers c = search (needs, c .before .before .loop-test .taken)
+
+array-write-numbers : tie.Need-array-write-numbers Inv-loop μ-loop
+array-write-numbers c = search (needs, c .before .before .loop-test .taken)
+
+add-k : tie.Need-add-k Inv-loop μ-loop
+add-k c = search (needs, c .before .before .loop-test .taken)
+
+loop-less : tie.Need-loop-less Inv-loop μ-loop
+loop-less c = let t = c .before .before .loop-test .taken in omega (arith, t)
+
+loop-again : tie.Need-loop-again Inv-loop μ-loop
+loop-again c =
+    let v = c .before .before .before .loop .inv in
+    let t = c .before .before .loop-test .taken in (
+      omega (arith, t),
+      length-set (c .before .before .before .loop .numbers) (c .before .before .before .loop .k) (c .encode .result) ∙ v .1,
+      filled-more (c .before .before .before .loop .numbers) (v .1) (c .before .before .before .loop .k) (c .encode .result) t (c .encode .ensures .0 ∙ ap encode (c .before .possible .ensures))
+          (v .2),
+    )
+
+returns : tie.Need-returns Inv-loop μ-loop
+returns c = let v = c .before .loop .inv in filled-all _ (v .1) _ (c .loop-test .left) (v .2)
+
+pub possible-numbers-spec : {M : Type 1} → statement M
+possible-numbers-spec =
+    tie.close
+    (tie.spec
+    Inv-loop
+    μ-loop
+    loop-holds
+    cast-possible
+    possible-requires
+    encode-requires
+    mul-numbers
+    array-write-numbers
+    add-k
+    loop-less
+    loop-again
+    returns)
