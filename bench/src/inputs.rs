@@ -7,6 +7,11 @@ pub fn small() -> Case {
     Case { plan: plan(&[ops(&["stop,0"])], &[1]), steps: Vec::new() }
 }
 
+/// Sixteen processes that wait for mail, of which there is none: no step is accepted.
+pub fn stuck() -> Case {
+    Case { plan: plan(&[ops(&["recv,1", "clause,int,0,0,0"])], &[1; 16]), steps: Vec::new() }
+}
+
 /// Eight behaviours of 32 ops with the longest operands, and sixteen processes that each run two ops and then circle in three.
 /// The longest plan text that is accepted has 32 bytes more, four for each `set`, and its processes run to their ends.
 pub fn longest(count: usize) -> Case {

@@ -1,17 +1,22 @@
-//! Measures the proved library beside the second interpreter.
+//! Measures the proved library beside plain Rust that is written for speed (`tuned`).
 //!   bench                             prints tables as Markdown
-//!   bench one WHAT MIX STEPS ROUNDS   one call of a play, `proved` or `plain`, for a tool that counts instructions
+//!   bench times                       the times of all work in this process; see processes.rs
+//!   bench one WHAT MIX STEPS ROUNDS   one call of a play, `proved` or `tuned`, for a tool that counts instructions
 //!   bench stack CALL KILOBYTES        a trial of limits.rs
 //!   bench memory CALL                 a trial of limits.rs
 
 mod bars;
+mod check;
 mod inputs;
 mod limits;
 mod measure;
 mod mixes;
-mod plain;
+mod processes;
 mod proved;
 mod tables;
+mod tuned;
+mod work;
+mod yardstick;
 
 use bars::Bars;
 use mixes::MIXES;
@@ -19,18 +24,21 @@ use std::env;
 use std::process::exit;
 
 fn report() {
+    check::random();
+    let (times, each) = processes::times();
     let mut bars = Bars::default();
-    tables::plays(&mut bars);
-    tables::steps(&mut bars);
-    tables::loads(&mut bars);
-    tables::reads();
-    tables::nodes();
-    tables::simulations(&mut bars);
+    tables::method();
+    tables::bars(&times);
+    tables::plays(&times, &each, &mut bars);
+    tables::steps(&times, &mut bars);
+    tables::texts(&times, &mut bars);
+    tables::reached(&times);
+    tables::simulated(&times, &mut bars);
     limits::tables(&mut bars);
     bars.print();
 }
 
-/// One call of a play; tells whether the words name one.
+/// One call of a play; tells whether the words name one, and all steps are accepted.
 fn one(what: &str, mix: &str, count: usize, rounds: usize) -> bool {
     let Some(mix) = MIXES.iter().find(|known| known.name == mix) else {
         return false;
@@ -38,10 +46,7 @@ fn one(what: &str, mix: &str, count: usize, rounds: usize) -> bool {
     let case = (mix.case)(count);
     match what {
         "proved" => proved::play(&case, rounds) == count,
-        "plain" => {
-            plain::Loaded::new(&case).play(rounds);
-            true
-        }
+        "tuned" => yardstick::Loaded::new(&case).play(rounds) == count,
         _ => false,
     }
 }
@@ -59,6 +64,10 @@ fn main() {
     let good = match words[..] {
         [] => {
             report();
+            true
+        }
+        ["times"] => {
+            processes::child();
             true
         }
         ["one", what, mix, count, rounds] => one(what, mix, number(count), number(rounds)),

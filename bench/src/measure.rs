@@ -1,10 +1,10 @@
-//! Timing: the shortest of many runs, since whatever else the machine does only adds to a run. The calls of a table are timed in turn,
+//! Timing: the shortest of many runs, since whatever else the machine does only adds to a run. The calls are timed in turn,
 //! again and again, so that a slow spell of the machine does not fall on one of them alone.
 
 use std::time::{Duration, Instant};
 
 /// How often the turn comes to each call, and how long it is timed then, without rounds and with them.
-const TURNS: usize = 20;
+const TURNS: usize = 10;
 const SPAN: Duration = Duration::from_millis(10);
 
 /// So many rounds are timed at once that they take at least so long.

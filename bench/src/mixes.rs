@@ -1,4 +1,4 @@
-//! The four mixes of steps that are timed: each is a plan text and a steps text of a wanted count, all of whose steps are accepted.
+//! The mixes of steps that are timed: each is a plan text and a steps text of a wanted count, all of whose steps are accepted.
 
 /// A plan text and a steps text.
 pub struct Case {
@@ -54,7 +54,7 @@ fn first(steps: impl Iterator<Item = String>, count: usize) -> Vec<u8> {
 }
 
 /// Eight processes in a ring, each with a behaviour of its own: each sends to the next, then receives and sends on.
-fn ring(count: usize) -> Case {
+pub fn ring(count: usize) -> Case {
     let next = |process: usize| process % 8 + 1;
     let behaviour = |process: usize| ops(&[&format!("set,1,p{}", next(process)), "set,0,i7", "send,1,0", "recv,1", "clause,int,0,0,2"]);
     let behaviours: Vec<_> = (1..=8).map(behaviour).collect();

@@ -11,6 +11,7 @@ mod exported {
         pub fn bench_play(plan: *const u8, plan_length: usize, steps: *const u8, steps_length: usize, rounds: usize) -> usize;
         pub fn bench_play_steps(plan: *const u8, plan_length: usize, steps: *const u8, steps_length: usize, rounds: usize) -> usize;
         pub fn bench_step(plan: *const u8, plan_length: usize, steps: *const u8, steps_length: usize, rounds: usize) -> usize;
+        pub fn bench_suggest(plan: *const u8, plan_length: usize, steps: *const u8, steps_length: usize, rounds: usize) -> usize;
         pub fn bench_list(
             plan: *const u8,
             plan_length: usize,
@@ -53,6 +54,11 @@ pub fn play_steps(case: &Case, rounds: usize) -> usize {
 
 pub fn step(case: &Case, rounds: usize) -> usize {
     on_texts(exported::bench_step, case, rounds)
+}
+
+/// How many rounds are told that no step would be accepted.
+pub fn suggest(case: &Case, rounds: usize) -> usize {
+    on_texts(exported::bench_suggest, case, rounds)
 }
 
 pub fn list(case: &Case, out: &mut [u8], rounds: usize) -> usize {
