@@ -30,7 +30,7 @@ pub(crate) fn suggests(n: Node, rounds: usize) -> usize
     let mut i: usize = 0;
     while i < rounds {
         if says_none(engine::suggest(n)) {
-            said += 1;
+            said = said + 1;
         }
         i += 1;
     }
