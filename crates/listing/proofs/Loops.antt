@@ -1,6 +1,6 @@
 -- The loops of `put_listing`: processes with their messages, then pairs with their signals, all one behind the other. Assumes nothing.
 --   processAt n i pairAt n i          the texts of the process and of the pair that stand at i
---   mailAt n i rowAt n i              the messages and the signals that are listed of them;  mailCount n i  how many messages
+--   mailAt n i rowAt n i              the messages and the signals that are listed of them;  mailSize n i  how many messages
 --   processesFrom n i pairsFrom n i   what is left to write of the processes, before the one at i, and of the pairs
 --   listing-parts                     all processes and then all pairs are the listing
 --   left-process left-message         a turn of the loop over processes, and of that over messages; with -end, the ends of these loops
@@ -16,6 +16,7 @@ use lib.Dec.{ltb}
 use lib.ListN.{length, take, drop, getD, length-take, List·getD-eq-default}
 use lib.Seq.{getD-take, getD-drop}
 use Rattle.node.proofs.Contents.{messages-length, messages-at, signals-length, signals-at}
+use Rattle.node.specs.Processes.{mailCount}
 use Rattle.node.specs.declared.Cell.{Cell}
 use Rattle.node.specs.declared.Message.{Message}
 use Rattle.node.specs.declared.Node.{Node}
@@ -33,7 +34,7 @@ use Rattle.rules.specs.Nodes.{view, standing}
 use Rattle.text.proofs.Writing.{Left, left-item, left-skip, left-end, _▸_}
 use Rattle.text.specs.Writing.{Wrote, each}
 use Rattle.listing_lines.proofs.Laws.{standing-text, mail-length, mail-at, pair-none, pair-some}
-use Rattle.listing_lines.specs.Lines.{eachFrom, messageLine, mailOf, listed, standingLines, standingText, signalLine, flightLine, pairText}
+use Rattle.listing_lines.specs.Lines.{eachFrom, messageLine, mailOf, standingLines, standingText, signalLine, flightLine, pairText}
 use Rattle.listing.specs.Listing.{rowsText, listingText, listingOf}
 
 -- ---- what stands at i
@@ -48,8 +49,8 @@ module _ (n : Node) (i : ℕ) where
   abbrev pub mailAt : List Message
   mailAt = mailOf (standing processOf (messages mailBlock))
 
-  abbrev pub mailCount : ℕ
-  mailCount = listed (processOf .stage) (getD (n .waiting) i 0)
+  abbrev pub mailSize : ℕ
+  mailSize = mailCount (processOf .stage) (getD (n .waiting) i 0)
 
   abbrev pub processAt : List ℕ
   processAt = standingText (i + 1) (standing processOf (messages mailBlock))
@@ -119,8 +120,8 @@ at-first : (size i : ℕ) → i < size → getD (rising 0 size) i 0 ≡ i
 at-first size i h = rising-at 0 size i 0 h ∙ zero-add i
 
 module _ (n : Node) (i : ℕ) where
-  mail-count : length (mailAt n i) ≡ mailCount n i
-  mail-count = mail-length (processOf n i) (messages (mailBlock n i)) ∙ ap (listed (processOf n i .stage)) (messages-length (mailBlock n i))
+  mail-count : length (mailAt n i) ≡ mailSize n i
+  mail-count = mail-length (processOf n i) (messages (mailBlock n i)) ∙ ap (mailCount (processOf n i .stage)) (messages-length (mailBlock n i))
 
   process-text : processAt n i ≡ standingLines (i + 1) (standing (processOf n i) []) (getD (n .waiting) i 0) ++ each messageLine (mailAt n i)
   process-text =
@@ -156,7 +157,7 @@ module _ (n : Node) (i : ℕ) {o text m : List ℕ} {a e : ℕ} where
 
   -- message k and signal k, read in place
   module _ (k : ℕ) where
-    pub left-message : {x : Message} {u : List ℕ} {r : ℕ} → Left o a text m e (each messageLine (drop k (mailAt n i))) → k < mailCount n i
+    pub left-message : {x : Message} {u : List ℕ} {r : ℕ} → Left o a text m e (each messageLine (drop k (mailAt n i))) → k < mailSize n i
         → x ≡ cond (ltb k 16) (getD (n .slots) (16 * i + k % 16) noMessage .message) (noMessage .message) → Wrote m e (messageLine x) u r
         → Left o a text u r (each messageLine (drop (k + 1) (mailAt n i)))
     left-message {x} p h at q =
@@ -166,7 +167,7 @@ module _ (n : Node) (i : ℕ) {o text m : List ℕ} {a e : ℕ} where
         got .1 ∙ messages-at b k (rw (messages-length b) at (got .0)) ∙ place-of (λ (s : Slot). s .message) 16 i k (n .slots) noMessage ∙ sym at in
         left-item messageLine (mailAt n i) k p (noMessage .message) (rw (mail-count n i) h) (rw same q)
 
-    pub left-messages-end : Left o a text m e (each messageLine (drop k (mailAt n i))) → mailCount n i ≤ k → Wrote o a text m e
+    pub left-messages-end : Left o a text m e (each messageLine (drop k (mailAt n i))) → mailSize n i ≤ k → Wrote o a text m e
     left-messages-end p h = left-end messageLine (mailAt n i) k p (rw (mail-count n i) h)
 
     pub left-signal : {x : Signal} {u : List ℕ} {r : ℕ} → Left o a text m e (each signalLine (drop k (rowAt n i))) → k < getD (n .counts) i 0

@@ -1,6 +1,5 @@
 // The listing of a node, written into a lent buffer.
 // Run over an empty slice its writers count, so a listing is counted before a buffer that may be too short is touched.
-use listing_lines::listed;
 use listing_lines::put_flight;
 use listing_lines::put_message;
 use listing_lines::put_process;
@@ -79,7 +78,7 @@ pub fn put_listing(out: &mut [u8], at: usize, n: Node) -> usize
         let p = n.processes[i];
         let waiting = n.waiting[i];
         e = put_process(out, e, ProcessNumber((i as u8) + 1), p, waiting);
-        let count = listed(p, waiting) as usize;
+        let count = p.mail_count(waiting) as usize;
         let mut k = 0;
         'messages: while k < count {
             let slot = n.slots[16 * i + k % 16];

@@ -13,6 +13,7 @@ use native.Mathlib.Nat.{not-suc-le-zero}
 use native.Mathlib.Omega.{arith}
 use borrow.Author.Tests.{le-leb}
 use lib.ListN.{length, drop, getD, drop-of-length-le}
+use Rattle.node.specs.Processes.{mailCount}
 use Rattle.node.specs.declared.Message.{Message}
 use Rattle.node.specs.declared.Peers.{Peers}
 use Rattle.node.specs.declared.Process.{Process}
@@ -28,7 +29,7 @@ use Rattle.rules.specs.Nodes.{standing, standingIn, setOf}
 use Rattle.text.proofs.Parts.{drop-next}
 use Rattle.text.proofs.Writing.{Left, left-more, left-none}
 use Rattle.text.specs.Writing.{Wrote, digits, digitsIn, each}
-use Rattle.listing_lines.specs.Lines.{comma, valueLine, eachFrom, joinsIf, members, withCommas, registerLine, messageLine, mailOf, listed, standingLines, standingText, signalLine}
+use Rattle.listing_lines.specs.Lines.{comma, valueLine, eachFrom, joinsIf, members, withCommas, registerLine, messageLine, mailOf, standingLines, standingText, signalLine}
 use Rattle.listing_lines.specs.Lines.{flightLine, pairText}
 
 -- ---- a loop that writes a link set; a comma stands before all members but the first
@@ -85,21 +86,21 @@ module _ (i : ℕ) (p : Process) where
     unfolding standing
     standing-text = lines-apart (p .stage)
 
-pub mail-length : (p : Process) (ms : List Message) → length (mailOf (standing p ms)) ≡ listed (p .stage) (length ms)
+pub mail-length : (p : Process) (ms : List Message) → length (mailOf (standing p ms)) ≡ mailCount (p .stage) (length ms)
 unfolding standing
 mail-length p ms = go (p .stage)
   where
-    go : (s : Stage) → length (mailOf (standingIn s p ms)) ≡ listed s (length ms)
+    go : (s : Stage) → length (mailOf (standingIn s p ms)) ≡ mailCount s (length ms)
     go Unborn = refl
     go Live = refl
     go Closing = refl
     go Gone = refl
 
-pub mail-at : (p : Process) (ms : List Message) (k : ℕ) (d : Message) → k < listed (p .stage) (length ms) → (k < length ms) × (getD (mailOf (standing p ms)) k d ≡ getD ms k d)
+pub mail-at : (p : Process) (ms : List Message) (k : ℕ) (d : Message) → k < mailCount (p .stage) (length ms) → (k < length ms) × (getD (mailOf (standing p ms)) k d ≡ getD ms k d)
 unfolding standing
 mail-at p ms k d h = go (p .stage) h
   where
-    go : (s : Stage) → k < listed s (length ms) → (k < length ms) × (getD (mailOf (standingIn s p ms)) k d ≡ getD ms k d)
+    go : (s : Stage) → k < mailCount s (length ms) → (k < length ms) × (getD (mailOf (standingIn s p ms)) k d ≡ getD ms k d)
     go Unborn h = absurd (not-suc-le-zero h)
     go Live h = (h, refl)
     go Closing h = absurd (not-suc-le-zero h)

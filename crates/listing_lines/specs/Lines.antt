@@ -8,7 +8,7 @@
 --   setLine key set       a key and a set of processes
 --   registerLine k v      register k
 --   messageLine m         a message
---   mailOf s              the messages of a process that are listed;  listed stage n  how many of n messages
+--   mailOf s              the messages of a process that are listed
 --   standingLines i s n   the lines of process i up to its messages, n of which wait
 --   standingText i s      process i; an unborn one has no text
 --   signalLine x          a signal
@@ -22,8 +22,6 @@ use Rattle.node.specs.declared.Message.the-variants.{Plain, Note}
 use Rattle.node.specs.declared.Message.{Message}
 use Rattle.node.specs.declared.Signal.the-variants.{Msg, Exit, Link, Unlink}
 use Rattle.node.specs.declared.Signal.{Signal}
-use Rattle.node.specs.declared.Stage.the-variants.{Unborn, Live, Closing, Gone}
-use Rattle.node.specs.declared.Stage.{Stage}
 use Rattle.node.specs.declared.Value.the-variants.{Pid}
 use Rattle.node.specs.declared.Value.{Value}
 use Rattle.node.specs.Texts.{bytes}
@@ -78,12 +76,6 @@ mailOf unborn = []
 mailOf (live r) = r .mail
 mailOf (closing v links) = []
 mailOf gone = []
-
-abbrev pub listed : Stage → ℕ → ℕ
-listed Unborn n = 0
-listed Live n = n
-listed Closing n = 0
-listed Gone n = 0
 
 -- "Closing has stage, reason, links; gone only stage"
 unfoldable pub standingLines : ℕ → Standing → ℕ → List ℕ

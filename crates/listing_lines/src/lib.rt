@@ -18,7 +18,7 @@ ghost use mathlib.Core.Path.{_≡_};
 ghost use Rattle.rules.specs.Nodes.{setOf, running, live, closing, gone, standing};
 ghost use Rattle.node.specs.Values.{numbers};
 ghost use Rattle.text.specs.Writing.{Wrote, digits};
-ghost use Rattle.listing_lines.specs.Lines.{comma, valueLine, eachFrom, flag, members, withCommas, setLine, registerLine, messageLine, listed, standingLines, signalLine, flightLine};
+ghost use Rattle.listing_lines.specs.Lines.{comma, valueLine, eachFrom, flag, members, withCommas, setLine, registerLine, messageLine, standingLines, signalLine, flightLine};
 
 // The lines of process i, for which `waiting` messages wait, up to and without them; an unborn process has no text.
 pub fn put_process(out: &mut [u8], at: usize, i: ProcessNumber, p: Process, waiting: u8) -> usize
@@ -30,19 +30,6 @@ pub fn put_process(out: &mut [u8], at: usize, i: ProcessNumber, p: Process, wait
         Stage::Live => put_live(out, at, i, p, waiting),
         Stage::Closing => put_closing(out, at, i, p),
         Stage::Gone => put_gone(out, at, i),
-    }
-}
-
-// How many of the messages that wait for a process are listed: all of a live one.
-pub fn listed(p: Process, waiting: u8) -> u8
-    ensures { λ r. ⌜ r ≡ listed (p .stage) waiting ⌝ }
-{
-    let stage = p.stage;
-    match stage {
-        Stage::Unborn => 0,
-        Stage::Live => waiting,
-        Stage::Closing => 0,
-        Stage::Gone => 0,
     }
 }
 

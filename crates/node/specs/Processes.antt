@@ -11,6 +11,7 @@
 --   unlinked p j       j leaves the link set
 --   ended p v          the process ends with reason v, and is closing; its links are unchanged
 --   gone p             the process is gone
+--   mailCount s n      how many of the n messages that its mailbox counts a process in stage s holds
 -- A number that is no register is read as 3, which does not occur in a sound node.
 use mathlib.Core.Bool.{Bool, false, cond}
 use Prim.Native.Nat.{ℕ, _+_, min}
@@ -81,3 +82,10 @@ ended p v = withStage p Closing v
 
 unfoldable pub gone : Process → Process
 gone p = withStage p Gone (p .reason)
+
+-- "live: .. mailbox": the other stages hold none
+abbrev pub mailCount : Stage → ℕ → ℕ
+mailCount Unborn n = 0
+mailCount Live n = n
+mailCount Closing n = 0
+mailCount Gone n = 0

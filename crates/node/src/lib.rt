@@ -7,7 +7,7 @@ ghost use lib.Dec.{leb};
 ghost use lib.ListN.{getD};
 ghost use Rattle.node.specs.declared.OperandKind.the-variants.{NoOperand};
 ghost use Rattle.node.specs.Ops.{kindsIn, kindsOf, operandCounts, operandKind, stopOp};
-ghost use Rattle.node.specs.Processes.{unborn, fresh, register, withRegister, moved, advanced, trapped, linksTo, linked, unlinked, ended, gone, withRegisters, withLinks, withStage};
+ghost use Rattle.node.specs.Processes.{unborn, fresh, register, withRegister, moved, advanced, trapped, linksTo, linked, unlinked, ended, gone, mailCount, withRegisters, withLinks, withStage};
 ghost use Rattle.node.specs.Values.{isNumber, valueSound, kindOf, messageKind, numberIn, sameValue};
 ghost use Rattle.node.specs.Sets.{noPeers, has, withPeer, withoutPeer, lowestPeer};
 ghost use Rattle.node.specs.Mailboxes.{noMessage};
@@ -640,6 +640,19 @@ impl Process {
     {
         let reason = self.reason;
         self.with_stage(Stage::Gone, reason)
+    }
+
+    // How many messages the process holds, of those that its mailbox counts: all where it is live, none in any other stage.
+    pub fn mail_count(self, waiting: u8) -> u8
+        ensures { λ r. ⌜ r ≡ mailCount (self .stage) waiting ⌝ }
+    {
+        let stage = self.stage;
+        match stage {
+            Stage::Unborn => 0,
+            Stage::Live => waiting,
+            Stage::Closing => 0,
+            Stage::Gone => 0,
+        }
     }
 
     fn with_stage(self, s: Stage, v: Value) -> Process

@@ -29,7 +29,7 @@ use Rattle.node.specs.Mailboxes.{messages, noMessage}
 use Rattle.node.specs.Nodes.{flightShelf, mailShelf, noOp, noProcess}
 use Rattle.node.specs.Ops.{clauseOp}
 use Rattle.node.specs.Rows.{noSignal, signals}
-use Rattle.node.specs.Processes.{linksTo}
+use Rattle.node.specs.Processes.{linksTo, mailCount}
 use Rattle.node.specs.Values.{isNumber, messageSound, numbers, valueSound}
 use Rattle.node.proofs.Good.{sized-node}
 use Rattle.node.proofs.Lists.{allFrom-rising, allOf-append}
@@ -41,7 +41,7 @@ use Rattle.rules.proofs.All.{allOf-at, parts}
 use Rattle.rules.proofs.Shape.{of-sized}
 use Rattle.behaviours.specs.Codes.{codeIn, codesIn}
 use Rattle.behaviours.proofs.Codes.{code-length, codes-at, codes-length, on-clause-at, on-clause-end}
-use Rattle.soundness.specs.Parts.{lengthIn, mailCount, placeIn, runningTold, standingTold}
+use Rattle.soundness.specs.Parts.{lengthIn, placeIn, runningTold, standingTold}
 use Rattle.soundness.proofs.Walk.{Blocks, Due, behind, blockSound}
 
 -- ---- the blocks of a node

@@ -2,7 +2,6 @@
 --   lengthIn lens p placeIn p    how long the behaviour of process p is, and where the op at its place stands; what is no behaviour or no place wraps
 --   runningTold standingTold     `runningSound` and `standingSound`, but for the mailbox, by what they look up: how many behaviours there are, how long
 --                                the process's own is, and the number of the op at its place
---   mailCount s n                how many of the n messages that a mailbox counts stage s holds
 use mathlib.Core.Bool.{Bool, true, _&&_, not, cond}
 use mathlib.Core.List.{List, [], _∷_}
 use Prim.Native.Nat.{ℕ, _+_, _-_, _*_, _%_}
@@ -34,10 +33,3 @@ standingTold Unborn c n there i p = true
 standingTold Live c n there i p = runningTold c n there p && not (linksTo p i)
 standingTold Closing c n there i p = valueSound (p .reason) && not (linksTo p i)
 standingTold Gone c n there i p = true
-
--- "live: .. mailbox": the other stages hold none
-abbrev pub mailCount : Stage → ℕ → ℕ
-mailCount Unborn n = 0
-mailCount Live n = n
-mailCount Closing n = 0
-mailCount Gone n = 0

@@ -26,7 +26,7 @@ pub fn sound(n: Node) -> bool
         if !processes::process_sound(ProcessNumber(number), p, count, lens, there) {
             return false;
         }
-        let waiting = processes::mail_count(p, n.waiting[i]);
+        let waiting = p.mail_count(n.waiting[i]);
         if 16 < waiting {
             return false;
         }

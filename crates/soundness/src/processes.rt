@@ -1,6 +1,6 @@
 // Processes in their stages, but for their mailboxes.
 ghost use mathlib.Core.Path.{_≡_};
-ghost use Rattle.soundness.specs.Parts.{lengthIn, mailCount, placeIn, runningTold, standingTold};
+ghost use Rattle.soundness.specs.Parts.{lengthIn, placeIn, runningTold, standingTold};
 use node::CLAUSE;
 use node::Process;
 use node::ProcessNumber;
@@ -56,17 +56,4 @@ pub fn place_index(p: Process) -> usize
 {
     let b = p.behaviour;
     (32 * b.index() + (p.place as usize)) % 256
-}
-
-// How many messages the stage of a process holds, of those that its mailbox counts.
-pub fn mail_count(p: Process, waiting: u8) -> u8
-    ensures { λ r. ⌜ r ≡ mailCount (p .stage) waiting ⌝ }
-{
-    let stage = p.stage;
-    match stage {
-        Stage::Unborn => 0,
-        Stage::Live => waiting,
-        Stage::Closing => 0,
-        Stage::Gone => 0,
-    }
 }

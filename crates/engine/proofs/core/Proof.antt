@@ -356,9 +356,6 @@ module _ (c : Joined) where
   abbrev s9 : Sought
   s9 = (c .before .before .before .before .before .before)
 
-  abbrev Q8 : Node
-  Q8 = (c .before) .if8 .node
-
   abbrev mail9 : Shelf Slot
   mail9 = storedMail (N t9) (N-sound t9) (T t9) (T-means t9) (E t9) (E-says t9) (m s9)
 

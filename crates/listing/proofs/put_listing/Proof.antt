@@ -58,8 +58,8 @@ add-t29 c = search needs
 put-process-requires : tie.Need-put-process-requires Inv-messages μ-messages Inv-processes μ-processes Inv-signals μ-signals Inv-pairs μ-pairs
 put-process-requires c κs = search needs
 
-listed-requires : tie.Need-listed-requires Inv-messages μ-messages Inv-processes μ-processes Inv-signals μ-signals Inv-pairs μ-pairs
-listed-requires c κs = search needs
+mail-count-requires : tie.Need-mail-count-requires Inv-messages μ-messages Inv-processes μ-processes Inv-signals μ-signals Inv-pairs μ-pairs
+mail-count-requires c κs = search needs
 
 cast-count : tie.Need-cast-count Inv-messages μ-messages Inv-processes μ-processes Inv-signals μ-signals Inv-pairs μ-pairs
 cast-count c = search needs
@@ -95,7 +95,7 @@ messages-again : tie.Need-messages-again Inv-messages μ-messages Inv-processes 
 messages-again c =
     let turn = c .before .before .before .before .before .before .before .messages in
     let test = c .before .before .before .before .before .before .messages-test in
-    let count = c .before .before .before .before .before .before .before .before .listed in
+    let count = c .before .before .before .before .before .before .before .before .mail-count in
     let n = c .before .before .before .before .before .before .before .before .before .before .before .before .before .before .before .before .before .before .args .t3 in
     left-message n _ _ (turn .inv) (rw (count .ensures) at (test .taken)) (c .before .before .before .message-at .ensures) (c .before .before .put-message .ensures)
 
@@ -109,7 +109,7 @@ processes-again : tie.Need-processes-again Inv-messages μ-messages Inv-processe
 processes-again c =
     let turn = c .before .before .before .before .before .before .before .before .before .before .processes in
     let test = c .before .before .before .before .before .before .before .before .before .processes-test in
-    let count = c .before .before .listed in
+    let count = c .before .before .mail-count in
     let n = c .before .before .before .before .before .before .before .before .before .before .before .before .args .t3 in
     left-process n _ (turn .inv) (test .taken) (c .before .before .before .before .before .put-process .ensures) (left-messages-end n _ _ (c .before .messages .inv)
     (rw (count .ensures) at (c .messages-test .left)))
@@ -228,7 +228,7 @@ put-listing-spec =
     cast-t26
     add-t29
     put-process-requires
-    listed-requires
+    mail-count-requires
     cast-count
     messages-holds
     mul-slot
