@@ -1,8 +1,9 @@
 -- What a number stands for, by its kind, and that the parts which are read of it mean that. Assumes nothing.
 --   Means a t     record t says what action a is, and where its owner's process and its row stand
 --   meant         what is decoded of a number means the number's action
+--   decoded-run decoded-arrival, decoded-no-owner -no-kind -no-sender   what is decoded, by what the code tests
 --   decode-encode the number of a step stands for the step
-use mathlib.Core.Bool.{true, false, not, So, cond, _&&_, false≢true}
+use mathlib.Core.Bool.{Bool, true, false, not, So, cond, _&&_, and-false, false≢true}
 use mathlib.Core.List.{_∷_, []}
 use mathlib.Core.Path.{_≡_, refl, sym, _∙_, ap}
 use Prim.Native.Nat.{ℕ, _+_, _-_, _*_, _/_, _%_, _≤_, _<_, min}
@@ -20,7 +21,7 @@ use Rattle.rules.proofs.All.{parts}
 use Rattle.rules.proofs.Records.{number-bounds}
 use Rattle.actions.specs.declared.Decoded.{Decoded}
 use Rattle.actions.specs.Numbers.{encode, decode, actionOf}
-use Rattle.actions.specs.Places.{processAt, decodedOf}
+use Rattle.actions.specs.Places.{processAt, rowAt, decodedOf}
 
 pub record Means (a : Action) (t : Decoded) : Type 0 where
   pub bad : t .bad ≡ not (numbered a)
@@ -31,35 +32,22 @@ pub record Means (a : Action) (t : Decoded) : Type 0 where
 -- ---- the action of a step, by its kind
 
 module _ (kind : ℕ) (i j : ProcessNumber) where
-  abbrev pub said : Action
+  abbrev said : Action
   said = meaning (record { kind = min kind 255; owner = i; from = j })
 
-  pub said-run : kind ≡ 0 → said ≡ run (i .0)
+  said-run : kind ≡ 0 → said ≡ run (i .0)
   unfolding meaning
   said-run h = rw h
 
-  pub said-arrive : kind ≡ 1 → said ≡ arrive (i .0) (j .0)
+  said-arrive : kind ≡ 1 → said ≡ arrive (i .0) (j .0)
   unfolding meaning
   said-arrive h = rw h
 
-  pub said-none : 1 < kind → said ≡ run 0
+  said-none : 1 < kind → said ≡ run 0
   unfolding meaning
   said-none h = let z : 2 ≤ min kind 255 = omega (arith, h) in List·getD-eq-default (run (i .0) ∷ arrive (i .0) (j .0) ∷ []) (run 0) z
 
-  pub arrive-numbered : kind ≡ 1 → numbered said ≡ (isNumber (i .0) && isNumber (j .0))
-  unfolding numbered
-  arrive-numbered h = rw (said-arrive h)
-
-  -- of a run and of an arrival, the owner is looked at
-  pub owner-unnumbered : kind ≤ 1 → isNumber (i .0) ≡ false → numbered said ≡ false
-  unfolding numbered
-  owner-unnumbered h e = go (ℕ-discrete kind 0)
-    where
-      go : Dec (kind ≡ 0) → numbered said ≡ false
-      go (yes z) = rw (said-run z) e
-      go (no z) = rw (said-arrive (omega (arith, h, z)), e)
-
-pub none-numbered : {a : Action} → a ≡ run 0 → numbered a ≡ false
+none-numbered : {a : Action} → a ≡ run 0 → numbered a ≡ false
 unfolding numbered isNumber
 none-numbered e = rw e
 
@@ -84,6 +72,38 @@ module _ (k : ℕ) where
   unfolding actionOf decode
   kind-none h = said-none (k / 65536) (record { 0 = i }) (record { 0 = j }) h
 
+  -- what is decoded, by what the code tests
+  abbrev shown : Bool → Bool → ℕ → ℕ → Decoded
+  shown bad arrives at row = record { bad = bad; arrives = arrives; owner = record { 0 = i }; from = record { 0 = j }; at = at; row = row }
+
+  none-in : numbered (actionOf k) ≡ false → decodedOf k ≡ shown true (eqb (k / 65536) 1) 0 0
+  unfolding decodedOf
+  none-in e = rw e
+
+  pub decoded-run : k / 65536 ≡ 0 → isNumber i ≡ true → decodedOf k ≡ shown false false (processAt i) 0
+  unfolding decodedOf numbered
+  decoded-run h e = rw (kind-run h, h, e)
+
+  pub decoded-arrival : k / 65536 ≡ 1 → isNumber i ≡ true → isNumber j ≡ true → decodedOf k ≡ shown false true (processAt i) (rowAt j i)
+  unfolding decodedOf numbered
+  decoded-arrival h e f = rw (kind-arrive h, h, e, f)
+
+  pub decoded-no-sender : k / 65536 ≡ 1 → isNumber j ≡ false → decodedOf k ≡ shown true (eqb (k / 65536) 1) 0 0
+  unfolding numbered
+  decoded-no-sender h e = none-in (rw (kind-arrive h, e) (and-false (isNumber i)))
+
+  pub decoded-no-kind : 1 < k / 65536 → decodedOf k ≡ shown true (eqb (k / 65536) 1) 0 0
+  decoded-no-kind h = none-in (none-numbered (kind-none h))
+
+  pub decoded-no-owner : isNumber i ≡ false → decodedOf k ≡ shown true (eqb (k / 65536) 1) 0 0
+  unfolding numbered
+  decoded-no-owner e = go (ℕ-discrete (k / 65536) 0) (ℕ-discrete (k / 65536) 1)
+    where
+      go : Dec (k / 65536 ≡ 0) → Dec (k / 65536 ≡ 1) → decodedOf k ≡ shown true (eqb (k / 65536) 1) 0 0
+      go (yes h) d = none-in (rw (kind-run h) e)
+      go (no g) (yes h) = none-in (rw (kind-arrive h, e))
+      go (no g) (no h) = decoded-no-kind (omega (arith, g, h))
+
   at-here : So (isNumber i) → processAt i ≡ i - 1
   at-here h = let x = number-bounds i h in omega (arith, x)
 
@@ -100,7 +120,7 @@ module _ (k : ℕ) where
         bad = refl;
         action = λ ok. kind-arrive h ∙ rw a;
         at = λ ok. rw (not-false (numbered (actionOf k)) ok) (at-here (known ok .0));
-        row = λ ok arr. let x = number-bounds i (known ok .0) in let y = number-bounds j (known ok .1) in rw (not-false (numbered (actionOf k)) ok) (omega (arith, x, y));
+        row = λ ok arr. let x = number-bounds i (known ok .0) in let y = number-bounds j (known ok .1) in rw (not-false (numbered (actionOf k)) ok, a) (omega (arith, x, y));
       }
   of-kind (no g) (no h) =
       let bad : not (numbered (actionOf k)) ≡ false → ⊥ = λ ok. false≢true (sym ok ∙ ap not (none-numbered (kind-none (omega (arith, g, h))))) in

@@ -1,8 +1,8 @@
 // A step as one number: its action, and where its parts stand in a node.
-ghost use mathlib.Core.Bool.{not};
+ghost use mathlib.Core.Bool.{true};
 ghost use mathlib.Core.Path.{_≡_};
-ghost use Prim.Native.Nat.{_<_, min};
-ghost use Rattle.rules.specs.Steps.{meaning, numbered};
+ghost use Prim.Native.Nat.{_<_};
+ghost use lib.Dec.{eqb};
 ghost use Rattle.actions.specs.Numbers.{encode, decode};
 ghost use Rattle.actions.specs.Places.{processAt, rowAt, behaviourAt, opAt, decodedOf};
 use node::BehaviourNumber;
@@ -26,11 +26,7 @@ pub fn process_index(i: ProcessNumber) -> usize
     ensures { λ r. ⌜ r ≡ processAt (i .0) ⌝ }
     ensures { λ r. ⌜ r < 16 ⌝ }
 {
-    let k = i.index();
-    if k < 16 {
-        return k;
-    }
-    15
+    i.index() % 16
 }
 
 // Where the row from j to i stands.
@@ -48,11 +44,7 @@ pub fn behaviour_index(b: BehaviourNumber) -> usize
     ensures { λ r. ⌜ r ≡ behaviourAt (b .0) ⌝ }
     ensures { λ r. ⌜ r < 8 ⌝ }
 {
-    let k = b.index();
-    if k < 8 {
-        return k;
-    }
-    7
+    b.index() % 8
 }
 
 // Where the op at a place of behaviour b stands.
@@ -61,11 +53,7 @@ pub fn op_index(b: BehaviourNumber, place: u8) -> usize
     ensures { λ r. ⌜ r < 256 ⌝ }
 {
     let w = behaviour_index(b);
-    let x = 32 * w + (place as usize);
-    if x < 256 {
-        return x;
-    }
-    255
+    32 * w + ((place % 32) as usize)
 }
 
 // The number of a step, which stands for that step.
@@ -86,19 +74,28 @@ pub fn decode(s: u32) -> Decoded
     let kind = s / 65536;
     let owner = ProcessNumber((s / 256 % 256) as u8);
     let from = ProcessNumber((s % 256) as u8);
-    if is_unnumbered(kind, owner, from) {
+    if !is_number(owner.0) {
+        return unnumbered(kind, owner, from);
+    }
+    if kind == 0 {
         return Decoded {
-            bad: true,
-            arrives: kind == 1,
+            bad: false,
+            arrives: false,
             owner,
             from,
-            at: 0,
+            at: process_index(owner),
             row: 0,
         };
     }
+    if kind != 1 {
+        return unnumbered(kind, owner, from);
+    }
+    if !is_number(from.0) {
+        return unnumbered(kind, owner, from);
+    }
     Decoded {
         bad: false,
-        arrives: kind == 1,
+        arrives: true,
         owner,
         from,
         at: process_index(owner),
@@ -107,17 +104,15 @@ pub fn decode(s: u32) -> Decoded
 }
 
 // 20: a process number of the step is none, or its kind is none.
-fn is_unnumbered(kind: u32, owner: ProcessNumber, from: ProcessNumber) -> bool
-    ensures { λ r. ⌜ r ≡ not (numbered (meaning (record { kind = min kind 255; owner = owner; from = from }))) ⌝ }
+fn unnumbered(kind: u32, owner: ProcessNumber, from: ProcessNumber) -> Decoded
+    ensures { λ r. ⌜ r ≡ record { bad = true; arrives = eqb kind 1; owner = owner; from = from; at = 0; row = 0 } ⌝ }
 {
-    if 1 < kind {
-        return true;
+    Decoded {
+        bad: true,
+        arrives: kind == 1,
+        owner,
+        from,
+        at: 0,
+        row: 0,
     }
-    if is_number(owner.0) {
-        if kind == 0 {
-            return false;
-        }
-        return !is_number(from.0);
-    }
-    true
 }

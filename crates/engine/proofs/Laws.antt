@@ -9,6 +9,7 @@ use lib.ListN.{length, getD, drop, length-map, drop-of-length-le}
 use lib.Seq.{drop-cons}
 use Rattle.node.specs.declared.Message.{Message}
 use Rattle.node.specs.declared.Node.{Node}
+use Rattle.node.specs.declared.Cell.{Cell}
 use Rattle.node.specs.declared.Slot.{Slot}
 use Rattle.node.specs.Blocks.{blockOf}
 use Rattle.node.specs.Mailboxes.{messages}
@@ -110,6 +111,9 @@ going false n l = start l n
 going true n l = (refl, omega arith)
 
 -- ---- a node in the middle of a turn
+
+abbrev pub withCells : Node → List Cell → Node
+withCells n c = record { count = n .count; lens = n .lens; ops = n .ops; processes = n .processes; waiting = n .waiting; slots = n .slots; counts = n .counts; cells = c }
 
 abbrev pub withSlots : Node → List Slot → Node
 withSlots n s = record { count = n .count; lens = n .lens; ops = n .ops; processes = n .processes; waiting = n .waiting; slots = s; counts = n .counts; cells = n .cells }

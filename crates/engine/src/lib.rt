@@ -3,13 +3,12 @@
 ghost use mathlib.Core.Bool.{true, false};
 ghost use mathlib.Core.List.{map};
 ghost use mathlib.Core.Path.{_≡_};
-ghost use Prim.Native.Nat.{_<_, _+_, min};
+ghost use Prim.Native.Nat.{_<_, _+_, _*_, min};
 ghost use Rattle.actions.specs.Numbers.{actionOf};
 ghost use Rattle.rules.specs.Nodes.{Sound};
 ghost use Rattle.rules.specs.Steps.{meaning, step, play, played};
 ghost use Rattle.rules.specs.Suggest.{Suggests};
 ghost use Rattle.engine.specs.Answers.{playedOf, steppedBy, suggestionOf, possibleStep, possibleNumbers, firstOf};
-ghost use Rattle.engine.specs.Stores.{cellAt};
 use actions::behaviour_index;
 use actions::decode;
 use actions::encode;
@@ -182,7 +181,7 @@ fn clauses_end(x: usize, clauses: u8) -> usize
 // The cell behind the signals of a row.
 fn cell_index(row: usize, sent: u8) -> usize
     requires { ⌜ row < 256 ⌝ }
-    ensures { λ r. ⌜ r ≡ cellAt row sent ⌝ }
+    ensures { λ r. ⌜ r ≡ min (4 * row + sent) 1023 ⌝ }
     ensures { λ r. ⌜ r < 1024 ⌝ }
 {
     at_most(4 * row + (sent as usize), 1023)
@@ -287,14 +286,14 @@ fn core(n: Node, numbers: &[u32], looks: bool) -> Played
             continue;
         }
         if s.arrives {
-            let f = 4 * r;
-            let c1 = node.cells[f + 1];
-            let c2 = node.cells[f + 2];
-            let c3 = node.cells[f + 3];
-            node.cells[f] = c1;
-            node.cells[f + 1] = c2;
-            node.cells[f + 2] = c3;
-            node.cells[f + 3] = Cell::blank();
+            let mut f = 4 * r;
+            let last = 4 * r + 3;
+            while f < last {
+                let cell = node.cells[f + 1];
+                node.cells[f] = cell;
+                f += 1;
+            }
+            node.cells[last] = Cell::blank();
             node.counts[r] = fallen(node.counts[r]);
         }
     }

@@ -37,7 +37,7 @@ module _ {A : Type 0} where
   -- ---- a run of stores
 
   -- a store outside of the run
-  set-sets : (vs l : List A) (i m : ℕ) (x : A) → ((a : ℕ) → a < length vs → i + a ≢ m) → set (sets l i vs) m x ≡ sets (set l m x) i vs
+  pub set-sets : (vs l : List A) (i m : ℕ) (x : A) → ((a : ℕ) → a < length vs → i + a ≢ m) → set (sets l i vs) m x ≡ sets (set l m x) i vs
   set-sets [] l i m x h = refl
   set-sets (v ∷ vs) l i m x h =
       set-sets vs (set l i v) (suc i) m x (λ a g e. h (suc a) (omega arith) (omega arith))

@@ -29,12 +29,11 @@ use Rattle.rules.specs.Receive.{firstClause, search as searchFor}
 use Rattle.rules.specs.Answers.{refused, done, noFit}
 use Rattle.rules.specs.Steps.{Action, Outcome, rule, played}
 use Rattle.engine.specs.Answers.{firstOf}
-use Rattle.engine.specs.Stores.{cellAt}
-use Rattle.engine.proofs.Changes.{searchedOf, waitingNext, sentNext, cellNext, slotNext}
-use Rattle.engine.proofs.Laws.{Going, going, stop, more, over, look-more, look-stop, look-over, withSlots, mailOf}
-use Rattle.engine.proofs.Stores.{up-end, Moved, moved-start, moved-more, moved-end}
-use Rattle.engine.proofs.Turns.{placeAt, clausesOf, P, O, C, X, W, Says, Y, Z, pairTold, birthTold, top, join, told-as-it-is, message-at, found, missed, passed, unfound, unsought}
-use Rattle.engine.proofs.Turns.{Verdict, Committed, made, storedMail, storedFlight, sentAt, stored-run, stored-birth, stored-arrival}
+use Rattle.turns.proofs.Changes.{cellAt, searchedOf, waitingNext, sentNext, cellNext, slotNext}
+use Rattle.engine.proofs.Laws.{Going, going, stop, more, over, look-more, look-stop, look-over, withSlots, withCells, mailOf}
+use Rattle.turns.proofs.Stores.{up-end, Moved, moved-start, moved-more, moved-end}
+use Rattle.turns.proofs.Turns.{placeAt, clausesOf, P, O, C, X, W, Says, Y, Z, pairTold, birthTold, top, join, told-as-it-is, message-at, found, missed, passed, unfound, unsought}
+use Rattle.turns.proofs.Turns.{Verdict, Committed, made, storedMail, storedFlight, stored-cells, sentAt, stored-run, stored-birth, stored-arrival}
 use Rattle.engine.proofs.core.Statement.{statement}
 use Rattle.engine.proofs.core.Tie as tie
 
@@ -62,6 +61,12 @@ Inv-loop3 numbers looks node₀ i t s k r x waiting w e owner to number refusal 
 abbrev μ-loop3 : tie.MeasureT-loop3
 μ-loop3 numbers looks node₀ i t s k r x waiting w e owner to number refusal m₀ top node m = top - m
 
+abbrev Inv-loop4 : tie.InvT-loop4
+Inv-loop4 numbers looks node₀ i t k r x waiting w refusal m top f₀ last node f = (node ≡ withCells node₀ (node .cells)) × Moved (node₀ .cells) f₀ (last + 1) (node .cells) f
+
+abbrev μ-loop4 : tie.MeasureT-loop4
+μ-loop4 numbers looks node₀ i t k r x waiting w refusal m top f₀ last node f = last - f
+
 abbrev Inv-loop : tie.InvT-loop
 Inv-loop numbers looks node₀ i₀ node i = (i ≤ length numbers) × Sound node × Going looks node₀ numbers i node
 
@@ -75,7 +80,7 @@ small {x} h = fits-under w64 x 65536 h tt
 -- ---- a turn whose step is decided
 
 abbrev Turn : Type 0
-Turn = tie.After-next Inv-loop2 μ-loop2 Inv-messages μ-messages Inv-loop3 μ-loop3 Inv-loop μ-loop
+Turn = tie.After-next Inv-loop2 μ-loop2 Inv-messages μ-messages Inv-loop3 μ-loop3 Inv-loop4 μ-loop4 Inv-loop μ-loop
 
 module _ (c : Turn) where
   abbrev numbers : List ℕ
@@ -190,7 +195,7 @@ module _ (c : Turn) where
 -- ---- the search is over, where there is one
 
 abbrev Sought : Type 0
-Sought = tie.Joined1 Inv-loop2 μ-loop2 Inv-messages μ-messages Inv-loop3 μ-loop3 Inv-loop μ-loop
+Sought = tie.Joined1 Inv-loop2 μ-loop2 Inv-messages μ-messages Inv-loop3 μ-loop3 Inv-loop4 μ-loop4 Inv-loop μ-loop
 
 module _ (c : Sought) where
   abbrev sought-by : Turn
@@ -254,7 +259,7 @@ module _ (c : Sought) where
 -- ---- 26 and 27
 
 abbrev Paired : Type 0
-Paired = tie.Joined3 Inv-loop2 μ-loop2 Inv-messages μ-messages Inv-loop3 μ-loop3 Inv-loop μ-loop
+Paired = tie.Joined3 Inv-loop2 μ-loop2 Inv-messages μ-messages Inv-loop3 μ-loop3 Inv-loop4 μ-loop4 Inv-loop μ-loop
 
 paired : (c : Paired) → c .if3 .refusal ≡ pairTold (N ((c .before .before))) (N-sound ((c .before .before))) (T ((c .before .before))) (T-means ((c .before .before))) (E ((c .before .before)))
     (E-says ((c .before .before))) ((c .before) .if1 .refusal)
@@ -268,7 +273,7 @@ paired c =
     (c .if3 .came)
 
 abbrev Over : Type 0
-Over = tie.Joined4 Inv-loop2 μ-loop2 Inv-messages μ-messages Inv-loop3 μ-loop3 Inv-loop μ-loop
+Over = tie.Joined4 Inv-loop2 μ-loop2 Inv-messages μ-messages Inv-loop3 μ-loop3 Inv-loop4 μ-loop4 Inv-loop μ-loop
 
 module _ (c : Over) where
   abbrev t : Turn
@@ -308,7 +313,7 @@ module _ (c : Over) where
 -- ---- the stores, one after another
 
 abbrev Shifted : Type 0
-Shifted = tie.Joined8 Inv-loop2 μ-loop2 Inv-messages μ-messages Inv-loop3 μ-loop3 Inv-loop μ-loop
+Shifted = tie.Joined8 Inv-loop2 μ-loop2 Inv-messages μ-messages Inv-loop3 μ-loop3 Inv-loop4 μ-loop4 Inv-loop μ-loop
 
 module _ (c : Shifted) where
   abbrev t8 : Turn
@@ -347,7 +352,7 @@ module _ (c : Shifted) where
       unmoved q = ⊎-elim (λ w. absurd (false≢true (sym q ∙ w .0))) (λ w. let e = w .3 in let l = last-first t8 q in omega (arith, e, l)) (ends s8 .answer)
 
 abbrev Joined : Type 0
-Joined = tie.Joined9 Inv-loop2 μ-loop2 Inv-messages μ-messages Inv-loop3 μ-loop3 Inv-loop μ-loop
+Joined = tie.Joined9 Inv-loop2 μ-loop2 Inv-messages μ-messages Inv-loop3 μ-loop3 Inv-loop4 μ-loop4 Inv-loop μ-loop
 
 module _ (c : Joined) where
   abbrev t9 : Turn
@@ -388,7 +393,7 @@ module _ (c : Joined) where
       (c .if9 .came)
 
 abbrev Stored : Type 0
-Stored = tie.Joined10 Inv-loop2 μ-loop2 Inv-messages μ-messages Inv-loop3 μ-loop3 Inv-loop μ-loop
+Stored = tie.Joined10 Inv-loop2 μ-loop2 Inv-messages μ-messages Inv-loop3 μ-loop3 Inv-loop4 μ-loop4 Inv-loop μ-loop
 
 module _ (c : Stored) where
   abbrev u : Turn
@@ -433,105 +438,96 @@ abbrev birth-in : Node → ℕ → Process → Node
 birth-in q k p = made q (set (q .processes) k p) (record { cells = q .slots; counts = set (q .waiting) k 0 }) (flightShelf q)
 
 abbrev arrival-in : Node → ℕ → Cell → ℕ → Node
-arrival-in q r blank k =
-    made q (q .processes) (mailShelf q)
-    (record {
-      cells =
-          set
-          (set (set (set (q .cells) (4 * r) (getD (q .cells) (4 * r + 1) noSignal)) (4 * r + 1) (getD (q .cells) (4 * r + 2) noSignal)) (4 * r + 2) (getD (q .cells) (4 * r + 3) noSignal))
-          (4 * r + 3)
-          blank;
-      counts = set (q .counts) r k;
-    })
+arrival-in q r blank k = made q (q .processes) (mailShelf q) (record { cells = set (q .cells) (4 * r + 3) blank; counts = set (q .counts) r k })
 
-loop-holds : tie.Need-loop-holds Inv-loop2 μ-loop2 Inv-messages μ-messages Inv-loop3 μ-loop3 Inv-loop μ-loop
+loop-holds : tie.Need-loop-holds Inv-loop2 μ-loop2 Inv-messages μ-messages Inv-loop3 μ-loop3 Inv-loop4 μ-loop4 Inv-loop μ-loop
 loop-holds c = (omega arith, (c .before) .pre, going ((c .before) .args .looks) ((c .before) .args .n) ((c .before) .args .numbers .now))
 
-mul-decode : tie.Need-mul-decode Inv-loop2 μ-loop2 Inv-messages μ-messages Inv-loop3 μ-loop3 Inv-loop μ-loop
+mul-decode : tie.Need-mul-decode Inv-loop2 μ-loop2 Inv-messages μ-messages Inv-loop3 μ-loop3 Inv-loop4 μ-loop4 Inv-loop μ-loop
 mul-decode c = search needs
 
-shared-slice-read-decode : tie.Need-shared-slice-read-decode Inv-loop2 μ-loop2 Inv-messages μ-messages Inv-loop3 μ-loop3 Inv-loop μ-loop
+shared-slice-read-decode : tie.Need-shared-slice-read-decode Inv-loop2 μ-loop2 Inv-messages μ-messages Inv-loop3 μ-loop3 Inv-loop4 μ-loop4 Inv-loop μ-loop
 shared-slice-read-decode c = (c .before) .loop-test .taken
 
-decode-requires : tie.Need-decode-requires Inv-loop2 μ-loop2 Inv-messages μ-messages Inv-loop3 μ-loop3 Inv-loop μ-loop
+decode-requires : tie.Need-decode-requires Inv-loop2 μ-loop2 Inv-messages μ-messages Inv-loop3 μ-loop3 Inv-loop4 μ-loop4 Inv-loop μ-loop
 decode-requires c κs = tt
 
-add-i : tie.Need-add-i Inv-loop2 μ-loop2 Inv-messages μ-messages Inv-loop3 μ-loop3 Inv-loop μ-loop
+add-i : tie.Need-add-i Inv-loop2 μ-loop2 Inv-messages μ-messages Inv-loop3 μ-loop3 Inv-loop4 μ-loop4 Inv-loop μ-loop
 add-i c = search needs
 
-mul-p : tie.Need-mul-p Inv-loop2 μ-loop2 Inv-messages μ-messages Inv-loop3 μ-loop3 Inv-loop μ-loop
+mul-p : tie.Need-mul-p Inv-loop2 μ-loop2 Inv-messages μ-messages Inv-loop3 μ-loop3 Inv-loop4 μ-loop4 Inv-loop μ-loop
 mul-p c = small (let h = c .decode .ensures .1 .0 in omega (arith, h))
 
-element-copy-out-p : tie.Need-element-copy-out-p Inv-loop2 μ-loop2 Inv-messages μ-messages Inv-loop3 μ-loop3 Inv-loop μ-loop
+element-copy-out-p : tie.Need-element-copy-out-p Inv-loop2 μ-loop2 Inv-messages μ-messages Inv-loop3 μ-loop3 Inv-loop4 μ-loop4 Inv-loop μ-loop
 element-copy-out-p c = c .decode .ensures .1 .0
 
-op-index-requires : tie.Need-op-index-requires Inv-loop2 μ-loop2 Inv-messages μ-messages Inv-loop3 μ-loop3 Inv-loop μ-loop
+op-index-requires : tie.Need-op-index-requires Inv-loop2 μ-loop2 Inv-messages μ-messages Inv-loop3 μ-loop3 Inv-loop4 μ-loop4 Inv-loop μ-loop
 op-index-requires c κs = tt
 
-mul-op : tie.Need-mul-op Inv-loop2 μ-loop2 Inv-messages μ-messages Inv-loop3 μ-loop3 Inv-loop μ-loop
+mul-op : tie.Need-mul-op Inv-loop2 μ-loop2 Inv-messages μ-messages Inv-loop3 μ-loop3 Inv-loop4 μ-loop4 Inv-loop μ-loop
 mul-op c = small (let h = c .op-index .ensures .1 in omega (arith, h))
 
-element-copy-out-op : tie.Need-element-copy-out-op Inv-loop2 μ-loop2 Inv-messages μ-messages Inv-loop3 μ-loop3 Inv-loop μ-loop
+element-copy-out-op : tie.Need-element-copy-out-op Inv-loop2 μ-loop2 Inv-messages μ-messages Inv-loop3 μ-loop3 Inv-loop4 μ-loop4 Inv-loop μ-loop
 element-copy-out-op c = c .op-index .ensures .1
 
-mul-oldest : tie.Need-mul-oldest Inv-loop2 μ-loop2 Inv-messages μ-messages Inv-loop3 μ-loop3 Inv-loop μ-loop
+mul-oldest : tie.Need-mul-oldest Inv-loop2 μ-loop2 Inv-messages μ-messages Inv-loop3 μ-loop3 Inv-loop4 μ-loop4 Inv-loop μ-loop
 mul-oldest c = small (let h = (c .before .before .before .before) .decode .ensures .1 .1 in omega (arith, h))
 
-mul-oldest-2 : tie.Need-mul-oldest-2 Inv-loop2 μ-loop2 Inv-messages μ-messages Inv-loop3 μ-loop3 Inv-loop μ-loop
+mul-oldest-2 : tie.Need-mul-oldest-2 Inv-loop2 μ-loop2 Inv-messages μ-messages Inv-loop3 μ-loop3 Inv-loop4 μ-loop4 Inv-loop μ-loop
 mul-oldest-2 c = small (let h = (c .before .before .before .before) .decode .ensures .1 .1 in omega (arith, h))
 
-element-copy-out-oldest : tie.Need-element-copy-out-oldest Inv-loop2 μ-loop2 Inv-messages μ-messages Inv-loop3 μ-loop3 Inv-loop μ-loop
+element-copy-out-oldest : tie.Need-element-copy-out-oldest Inv-loop2 μ-loop2 Inv-messages μ-messages Inv-loop3 μ-loop3 Inv-loop4 μ-loop4 Inv-loop μ-loop
 element-copy-out-oldest c = let h = (c .before .before .before .before) .decode .ensures .1 .1 in omega (arith, h)
 
-element-copy-out-waiting : tie.Need-element-copy-out-waiting Inv-loop2 μ-loop2 Inv-messages μ-messages Inv-loop3 μ-loop3 Inv-loop μ-loop
+element-copy-out-waiting : tie.Need-element-copy-out-waiting Inv-loop2 μ-loop2 Inv-messages μ-messages Inv-loop3 μ-loop3 Inv-loop4 μ-loop4 Inv-loop μ-loop
 element-copy-out-waiting c = (c .before .before .before .before .before) .decode .ensures .1 .0
 
-behaviour-index-requires : tie.Need-behaviour-index-requires Inv-loop2 μ-loop2 Inv-messages μ-messages Inv-loop3 μ-loop3 Inv-loop μ-loop
+behaviour-index-requires : tie.Need-behaviour-index-requires Inv-loop2 μ-loop2 Inv-messages μ-messages Inv-loop3 μ-loop3 Inv-loop4 μ-loop4 Inv-loop μ-loop
 behaviour-index-requires c κs = tt
 
-element-copy-out-decide : tie.Need-element-copy-out-decide Inv-loop2 μ-loop2 Inv-messages μ-messages Inv-loop3 μ-loop3 Inv-loop μ-loop
+element-copy-out-decide : tie.Need-element-copy-out-decide Inv-loop2 μ-loop2 Inv-messages μ-messages Inv-loop3 μ-loop3 Inv-loop4 μ-loop4 Inv-loop μ-loop
 element-copy-out-decide c = (c .before .before .before .before .before .before .before) .decode .ensures .1 .1
 
-element-copy-out-decide-2 : tie.Need-element-copy-out-decide-2 Inv-loop2 μ-loop2 Inv-messages μ-messages Inv-loop3 μ-loop3 Inv-loop μ-loop
+element-copy-out-decide-2 : tie.Need-element-copy-out-decide-2 Inv-loop2 μ-loop2 Inv-messages μ-messages Inv-loop3 μ-loop3 Inv-loop4 μ-loop4 Inv-loop μ-loop
 element-copy-out-decide-2 c = (c .before) .behaviour-index .ensures .1
 
-decide-requires : tie.Need-decide-requires Inv-loop2 μ-loop2 Inv-messages μ-messages Inv-loop3 μ-loop3 Inv-loop μ-loop
+decide-requires : tie.Need-decide-requires Inv-loop2 μ-loop2 Inv-messages μ-messages Inv-loop3 μ-loop3 Inv-loop4 μ-loop4 Inv-loop μ-loop
 decide-requires c κs = tt
 
-mul-m : tie.Need-mul-m Inv-loop2 μ-loop2 Inv-messages μ-messages Inv-loop3 μ-loop3 Inv-loop μ-loop
+mul-m : tie.Need-mul-m Inv-loop2 μ-loop2 Inv-messages μ-messages Inv-loop3 μ-loop3 Inv-loop4 μ-loop4 Inv-loop μ-loop
 mul-m c = small (let h = at-bound c in omega (arith, h))
 
-mul-top : tie.Need-mul-top Inv-loop2 μ-loop2 Inv-messages μ-messages Inv-loop3 μ-loop3 Inv-loop μ-loop
+mul-top : tie.Need-mul-top Inv-loop2 μ-loop2 Inv-messages μ-messages Inv-loop3 μ-loop3 Inv-loop4 μ-loop4 Inv-loop μ-loop
 mul-top c = small (let h = at-bound c in omega (arith, h))
 
-mul-top-2 : tie.Need-mul-top-2 Inv-loop2 μ-loop2 Inv-messages μ-messages Inv-loop3 μ-loop3 Inv-loop μ-loop
+mul-top-2 : tie.Need-mul-top-2 Inv-loop2 μ-loop2 Inv-messages μ-messages Inv-loop3 μ-loop3 Inv-loop4 μ-loop4 Inv-loop μ-loop
 mul-top-2 c = small (let h = at-bound (c .before) in omega (arith, h))
 
-up-to-requires : tie.Need-up-to-requires Inv-loop2 μ-loop2 Inv-messages μ-messages Inv-loop3 μ-loop3 Inv-loop μ-loop
+up-to-requires : tie.Need-up-to-requires Inv-loop2 μ-loop2 Inv-messages μ-messages Inv-loop3 μ-loop3 Inv-loop4 μ-loop4 Inv-loop μ-loop
 up-to-requires c κs = tt
 
-add-top : tie.Need-add-top Inv-loop2 μ-loop2 Inv-messages μ-messages Inv-loop3 μ-loop3 Inv-loop μ-loop
+add-top : tie.Need-add-top Inv-loop2 μ-loop2 Inv-messages μ-messages Inv-loop3 μ-loop3 Inv-loop4 μ-loop4 Inv-loop μ-loop
 add-top c = small (let h = at-bound (c .before .before) in let e = c .up-to .ensures in omega (arith, h, e))
 
-clauses-end-requires : tie.Need-clauses-end-requires Inv-loop2 μ-loop2 Inv-messages μ-messages Inv-loop3 μ-loop3 Inv-loop μ-loop
+clauses-end-requires : tie.Need-clauses-end-requires Inv-loop2 μ-loop2 Inv-messages μ-messages Inv-loop3 μ-loop3 Inv-loop4 μ-loop4 Inv-loop μ-loop
 clauses-end-requires c κs = x-bound (c .before .before)
 
-messages-holds : tie.Need-messages-holds Inv-loop2 μ-loop2 Inv-messages μ-messages Inv-loop3 μ-loop3 Inv-loop μ-loop
+messages-holds : tie.Need-messages-holds Inv-loop2 μ-loop2 Inv-messages μ-messages Inv-loop3 μ-loop3 Inv-loop4 μ-loop4 Inv-loop μ-loop
 messages-holds c =
     let e : 16 * T (c .before .before .before) .at - 16 * T (c .before .before .before) .at ≡ 0 = omega arith in
     (omega arith, omega arith, refl, rw e)
 
-mul-slot : tie.Need-mul-slot Inv-loop2 μ-loop2 Inv-messages μ-messages Inv-loop3 μ-loop3 Inv-loop μ-loop
+mul-slot : tie.Need-mul-slot Inv-loop2 μ-loop2 Inv-messages μ-messages Inv-loop3 μ-loop3 Inv-loop4 μ-loop4 Inv-loop μ-loop
 mul-slot c = small (let h = c .messages-test .taken in let a = at-bound (c .before .before .before .before .before) in let e = (c .before .before .before) .up-to .ensures in omega (arith, h, a, e))
 
-element-copy-out-slot : tie.Need-element-copy-out-slot Inv-loop2 μ-loop2 Inv-messages μ-messages Inv-loop3 μ-loop3 Inv-loop μ-loop
+element-copy-out-slot : tie.Need-element-copy-out-slot Inv-loop2 μ-loop2 Inv-messages μ-messages Inv-loop3 μ-loop3 Inv-loop4 μ-loop4 Inv-loop μ-loop
 element-copy-out-slot c = let h = c .messages-test .taken in let a = at-bound (c .before .before .before .before .before) in let e = (c .before .before .before) .up-to .ensures in omega
     (arith, h, a, e)
 
-add-c : tie.Need-add-c Inv-loop2 μ-loop2 Inv-messages μ-messages Inv-loop3 μ-loop3 Inv-loop μ-loop
+add-c : tie.Need-add-c Inv-loop2 μ-loop2 Inv-messages μ-messages Inv-loop3 μ-loop3 Inv-loop4 μ-loop4 Inv-loop μ-loop
 add-c c = small (let h = x-bound (c .before .before .before .before .before .before) in omega (arith, h))
 
-loop2-holds : tie.Need-loop2-holds Inv-loop2 μ-loop2 Inv-messages μ-messages Inv-loop3 μ-loop3 Inv-loop μ-loop
+loop2-holds : tie.Need-loop2-holds Inv-loop2 μ-loop2 Inv-messages μ-messages Inv-loop3 μ-loop3 Inv-loop4 μ-loop4 Inv-loop μ-loop
 loop2-holds c =
     let t = (c .before .before .before .before .before .before) in
     let v = (c .before .before) .messages .inv in
@@ -542,25 +538,25 @@ loop2-holds c =
     let e : x t + 1 - behindOp t ≡ 0 = omega (arith, s) in
     (omega (arith, s), refl, refl, rw e f)
 
-mul-clause : tie.Need-mul-clause Inv-loop2 μ-loop2 Inv-messages μ-messages Inv-loop3 μ-loop3 Inv-loop μ-loop
+mul-clause : tie.Need-mul-clause Inv-loop2 μ-loop2 Inv-messages μ-messages Inv-loop3 μ-loop3 Inv-loop4 μ-loop4 Inv-loop μ-loop
 mul-clause c = small (let h = c .loop2-test .taken in let e = (c .before .before .before .before .before) .clauses-end .ensures in omega (arith, h, e))
 
-element-copy-out-clause : tie.Need-element-copy-out-clause Inv-loop2 μ-loop2 Inv-messages μ-messages Inv-loop3 μ-loop3 Inv-loop μ-loop
+element-copy-out-clause : tie.Need-element-copy-out-clause Inv-loop2 μ-loop2 Inv-messages μ-messages Inv-loop3 μ-loop3 Inv-loop4 μ-loop4 Inv-loop μ-loop
 element-copy-out-clause c = let h = c .loop2-test .taken in let e = (c .before .before .before .before .before) .clauses-end .ensures in omega (arith, h, e)
 
-fits-requires : tie.Need-fits-requires Inv-loop2 μ-loop2 Inv-messages μ-messages Inv-loop3 μ-loop3 Inv-loop μ-loop
+fits-requires : tie.Need-fits-requires Inv-loop2 μ-loop2 Inv-messages μ-messages Inv-loop3 μ-loop3 Inv-loop4 μ-loop4 Inv-loop μ-loop
 fits-requires c κs = tt
 
-taken-requires : tie.Need-taken-requires Inv-loop2 μ-loop2 Inv-messages μ-messages Inv-loop3 μ-loop3 Inv-loop μ-loop
+taken-requires : tie.Need-taken-requires Inv-loop2 μ-loop2 Inv-messages μ-messages Inv-loop3 μ-loop3 Inv-loop4 μ-loop4 Inv-loop μ-loop
 taken-requires c κs = tt
 
-add-c-2 : tie.Need-add-c-2 Inv-loop2 μ-loop2 Inv-messages μ-messages Inv-loop3 μ-loop3 Inv-loop μ-loop
+add-c-2 : tie.Need-add-c-2 Inv-loop2 μ-loop2 Inv-messages μ-messages Inv-loop3 μ-loop3 Inv-loop4 μ-loop4 Inv-loop μ-loop
 add-c-2 c = small (let h = (c .before .before .before) .loop2-test .taken in let e = (c .before .before .before .before .before .before .before .before) .clauses-end .ensures in omega (arith, h, e))
 
-loop2-less : tie.Need-loop2-less Inv-loop2 μ-loop2 Inv-messages μ-messages Inv-loop3 μ-loop3 Inv-loop μ-loop
+loop2-less : tie.Need-loop2-less Inv-loop2 μ-loop2 Inv-messages μ-messages Inv-loop3 μ-loop3 Inv-loop4 μ-loop4 Inv-loop μ-loop
 loop2-less c = let h = (c .before .before .before) .loop2-test .taken in omega (arith, h)
 
-loop2-again : tie.Need-loop2-again Inv-loop2 μ-loop2 Inv-messages μ-messages Inv-loop3 μ-loop3 Inv-loop μ-loop
+loop2-again : tie.Need-loop2-again Inv-loop2 μ-loop2 Inv-messages μ-messages Inv-loop3 μ-loop3 Inv-loop4 μ-loop4 Inv-loop μ-loop
 loop2-again c =
     let t = (c .before .before .before .before .before .before .before .before .before .before .before) in
     let v = (c .before .before .before .before) .loop2 .inv in
@@ -578,14 +574,14 @@ loop2-again c =
           ((c .before .before .before .before) .loop2 .c) ((c .before .before .before .before .before .before .before) .messages .inv .0) below low high f (v .3),
     )
 
-add-m : tie.Need-add-m Inv-loop2 μ-loop2 Inv-messages μ-messages Inv-loop3 μ-loop3 Inv-loop μ-loop
+add-m : tie.Need-add-m Inv-loop2 μ-loop2 Inv-messages μ-messages Inv-loop3 μ-loop3 Inv-loop4 μ-loop4 Inv-loop μ-loop
 add-m c = small (let h = (c .before .before .before) .messages-test .taken in let a = at-bound (c .before .before .before .before .before .before .before .before) in let e =
     (c .before .before .before .before .before .before) .up-to .ensures in omega (arith, h, a, e))
 
-messages-less : tie.Need-messages-less Inv-loop2 μ-loop2 Inv-messages μ-messages Inv-loop3 μ-loop3 Inv-loop μ-loop
+messages-less : tie.Need-messages-less Inv-loop2 μ-loop2 Inv-messages μ-messages Inv-loop3 μ-loop3 Inv-loop4 μ-loop4 Inv-loop μ-loop
 messages-less c = let h = (c .before .before .before) .messages-test .taken in omega (arith, h)
 
-messages-again : tie.Need-messages-again Inv-loop2 μ-loop2 Inv-messages μ-messages Inv-loop3 μ-loop3 Inv-loop μ-loop
+messages-again : tie.Need-messages-again Inv-loop2 μ-loop2 Inv-messages μ-messages Inv-loop3 μ-loop3 Inv-loop4 μ-loop4 Inv-loop μ-loop
 messages-again c =
     let t = (c .before .before .before .before .before .before .before .before) in
     let v = (c .before) .loop2 .inv in
@@ -604,37 +600,37 @@ messages-again c =
           from below (v .0) high (v .3),
     )
 
-row-index-requires : tie.Need-row-index-requires Inv-loop2 μ-loop2 Inv-messages μ-messages Inv-loop3 μ-loop3 Inv-loop μ-loop
+row-index-requires : tie.Need-row-index-requires Inv-loop2 μ-loop2 Inv-messages μ-messages Inv-loop3 μ-loop3 Inv-loop4 μ-loop4 Inv-loop μ-loop
 row-index-requires c κs = tt
 
-element-copy-out-pair-refusal : tie.Need-element-copy-out-pair-refusal Inv-loop2 μ-loop2 Inv-messages μ-messages Inv-loop3 μ-loop3 Inv-loop μ-loop
+element-copy-out-pair-refusal : tie.Need-element-copy-out-pair-refusal Inv-loop2 μ-loop2 Inv-messages μ-messages Inv-loop3 μ-loop3 Inv-loop4 μ-loop4 Inv-loop μ-loop
 element-copy-out-pair-refusal c = c .row-index .ensures .1
 
-pair-refusal-requires : tie.Need-pair-refusal-requires Inv-loop2 μ-loop2 Inv-messages μ-messages Inv-loop3 μ-loop3 Inv-loop μ-loop
+pair-refusal-requires : tie.Need-pair-refusal-requires Inv-loop2 μ-loop2 Inv-messages μ-messages Inv-loop3 μ-loop3 Inv-loop4 μ-loop4 Inv-loop μ-loop
 pair-refusal-requires c κs = tt
 
-process-index-requires : tie.Need-process-index-requires Inv-loop2 μ-loop2 Inv-messages μ-messages Inv-loop3 μ-loop3 Inv-loop μ-loop
+process-index-requires : tie.Need-process-index-requires Inv-loop2 μ-loop2 Inv-messages μ-messages Inv-loop3 μ-loop3 Inv-loop4 μ-loop4 Inv-loop μ-loop
 process-index-requires c κs = tt
 
-mul-birth-refusal : tie.Need-mul-birth-refusal Inv-loop2 μ-loop2 Inv-messages μ-messages Inv-loop3 μ-loop3 Inv-loop μ-loop
+mul-birth-refusal : tie.Need-mul-birth-refusal Inv-loop2 μ-loop2 Inv-messages μ-messages Inv-loop3 μ-loop3 Inv-loop4 μ-loop4 Inv-loop μ-loop
 mul-birth-refusal c = small (let h = c .process-index .ensures .1 in omega (arith, h))
 
-element-copy-out-birth-refusal : tie.Need-element-copy-out-birth-refusal Inv-loop2 μ-loop2 Inv-messages μ-messages Inv-loop3 μ-loop3 Inv-loop μ-loop
+element-copy-out-birth-refusal : tie.Need-element-copy-out-birth-refusal Inv-loop2 μ-loop2 Inv-messages μ-messages Inv-loop3 μ-loop3 Inv-loop4 μ-loop4 Inv-loop μ-loop
 element-copy-out-birth-refusal c = c .process-index .ensures .1
 
-birth-refusal-requires : tie.Need-birth-refusal-requires Inv-loop2 μ-loop2 Inv-messages μ-messages Inv-loop3 μ-loop3 Inv-loop μ-loop
+birth-refusal-requires : tie.Need-birth-refusal-requires Inv-loop2 μ-loop2 Inv-messages μ-messages Inv-loop3 μ-loop3 Inv-loop4 μ-loop4 Inv-loop μ-loop
 birth-refusal-requires c κs = tt
 
-loop-less : tie.Need-loop-less Inv-loop2 μ-loop2 Inv-messages μ-messages Inv-loop3 μ-loop3 Inv-loop μ-loop
+loop-less : tie.Need-loop-less Inv-loop2 μ-loop2 Inv-messages μ-messages Inv-loop3 μ-loop3 Inv-loop4 μ-loop4 Inv-loop μ-loop
 loop-less c = let h = in-list (c .before .before .before .before .before) in omega (arith, h)
 
-loop-again : tie.Need-loop-again Inv-loop2 μ-loop2 Inv-messages μ-messages Inv-loop3 μ-loop3 Inv-loop μ-loop
+loop-again : tie.Need-loop-again Inv-loop2 μ-loop2 Inv-messages μ-messages Inv-loop3 μ-loop3 Inv-loop4 μ-loop4 Inv-loop μ-loop
 loop-again c = looks-on (c .before .before .before .before .before) (c .if6 .taken) _ (refuses (c .before .before) ((c .before) .if5 .taken))
 
-ended-requires : tie.Need-ended-requires Inv-loop2 μ-loop2 Inv-messages μ-messages Inv-loop3 μ-loop3 Inv-loop μ-loop
+ended-requires : tie.Need-ended-requires Inv-loop2 μ-loop2 Inv-messages μ-messages Inv-loop3 μ-loop3 Inv-loop4 μ-loop4 Inv-loop μ-loop
 ended-requires c κs = tt
 
-returns : tie.Need-returns Inv-loop2 μ-loop2 Inv-messages μ-messages Inv-loop3 μ-loop3 Inv-loop μ-loop
+returns : tie.Need-returns Inv-loop2 μ-loop2 Inv-messages μ-messages Inv-loop3 μ-loop3 Inv-loop4 μ-loop4 Inv-loop μ-loop
 returns c =
     let t = (c .before .before .before .before .before .before) in
     let q = (c .before) .if6 .left in (
@@ -642,10 +638,10 @@ returns c =
       λ e. absurd (false≢true (sym q ∙ e)),
     )
 
-ended-requires-2 : tie.Need-ended-requires-2 Inv-loop2 μ-loop2 Inv-messages μ-messages Inv-loop3 μ-loop3 Inv-loop μ-loop
+ended-requires-2 : tie.Need-ended-requires-2 Inv-loop2 μ-loop2 Inv-messages μ-messages Inv-loop3 μ-loop3 Inv-loop4 μ-loop4 Inv-loop μ-loop
 ended-requires-2 c κs = tt
 
-returns-2 : tie.Need-returns-2 Inv-loop2 μ-loop2 Inv-messages μ-messages Inv-loop3 μ-loop3 Inv-loop μ-loop
+returns-2 : tie.Need-returns-2 Inv-loop2 μ-loop2 Inv-messages μ-messages Inv-loop3 μ-loop3 Inv-loop4 μ-loop4 Inv-loop μ-loop
 returns-2 c =
     let t = (c .before .before .before .before .before .before) in
     let q = (c .before) .if7 .taken in (
@@ -654,52 +650,52 @@ returns-2 c =
           (commits (c .before .before .before) ((c .before .before) .if5 .left) .answer),
     )
 
-mul-next : tie.Need-mul-next Inv-loop2 μ-loop2 Inv-messages μ-messages Inv-loop3 μ-loop3 Inv-loop μ-loop
+mul-next : tie.Need-mul-next Inv-loop2 μ-loop2 Inv-messages μ-messages Inv-loop3 μ-loop3 Inv-loop4 μ-loop4 Inv-loop μ-loop
 mul-next c = small (let h = at-bound (c .before .before .before .before .before) in omega (arith, h))
 
-element-set-from-next : tie.Need-element-set-from-next Inv-loop2 μ-loop2 Inv-messages μ-messages Inv-loop3 μ-loop3 Inv-loop μ-loop
+element-set-from-next : tie.Need-element-set-from-next Inv-loop2 μ-loop2 Inv-messages μ-messages Inv-loop3 μ-loop3 Inv-loop4 μ-loop4 Inv-loop μ-loop
 element-set-from-next c = at-bound (c .before .before .before .before .before)
 
-fallen-requires : tie.Need-fallen-requires Inv-loop2 μ-loop2 Inv-messages μ-messages Inv-loop3 μ-loop3 Inv-loop μ-loop
+fallen-requires : tie.Need-fallen-requires Inv-loop2 μ-loop2 Inv-messages μ-messages Inv-loop3 μ-loop3 Inv-loop4 μ-loop4 Inv-loop μ-loop
 fallen-requires c κs = tt
 
-element-write-node : tie.Need-element-write-node Inv-loop2 μ-loop2 Inv-messages μ-messages Inv-loop3 μ-loop3 Inv-loop μ-loop
+element-write-node : tie.Need-element-write-node Inv-loop2 μ-loop2 Inv-messages μ-messages Inv-loop3 μ-loop3 Inv-loop4 μ-loop4 Inv-loop μ-loop
 element-write-node c = at-bound (c .before .before .before .before .before .before .before)
 
-loop3-holds : tie.Need-loop3-holds Inv-loop2 μ-loop2 Inv-messages μ-messages Inv-loop3 μ-loop3 Inv-loop μ-loop
+loop3-holds : tie.Need-loop3-holds Inv-loop2 μ-loop2 Inv-messages μ-messages Inv-loop3 μ-loop3 Inv-loop4 μ-loop4 Inv-loop μ-loop
 loop3-holds c =
     let b = last-bound (c .before .before .before .before .before .before .before) in
     let h = ends (c .before .before .before .before .before .before) .within in
     (omega (arith, b, h), refl, moved-start _ _ _)
 
-add-loop3 : tie.Need-add-loop3 Inv-loop2 μ-loop2 Inv-messages μ-messages Inv-loop3 μ-loop3 Inv-loop μ-loop
+add-loop3 : tie.Need-add-loop3 Inv-loop2 μ-loop2 Inv-messages μ-messages Inv-loop3 μ-loop3 Inv-loop4 μ-loop4 Inv-loop μ-loop
 add-loop3 c = small (let h = c .loop3 .inv .0 in omega (arith, h))
 
-add-slot : tie.Need-add-slot Inv-loop2 μ-loop2 Inv-messages μ-messages Inv-loop3 μ-loop3 Inv-loop μ-loop
+add-slot : tie.Need-add-slot Inv-loop2 μ-loop2 Inv-messages μ-messages Inv-loop3 μ-loop3 Inv-loop4 μ-loop4 Inv-loop μ-loop
 add-slot c = small (let h = (c .before) .loop3 .inv .0 in omega (arith, h))
 
-mul-slot-2 : tie.Need-mul-slot-2 Inv-loop2 μ-loop2 Inv-messages μ-messages Inv-loop3 μ-loop3 Inv-loop μ-loop
+mul-slot-2 : tie.Need-mul-slot-2 Inv-loop2 μ-loop2 Inv-messages μ-messages Inv-loop3 μ-loop3 Inv-loop4 μ-loop4 Inv-loop μ-loop
 mul-slot-2 c = small (let h = c .loop3-test .taken in let b = last-bound (c .before .before .before .before .before .before .before .before .before) in let e = ends
     (c .before .before .before .before .before .before .before .before) .last in omega (arith, h, b, e))
 
-element-copy-out-slot-2 : tie.Need-element-copy-out-slot-2 Inv-loop2 μ-loop2 Inv-messages μ-messages Inv-loop3 μ-loop3 Inv-loop μ-loop
+element-copy-out-slot-2 : tie.Need-element-copy-out-slot-2 Inv-loop2 μ-loop2 Inv-messages μ-messages Inv-loop3 μ-loop3 Inv-loop4 μ-loop4 Inv-loop μ-loop
 element-copy-out-slot-2 c = let h = c .loop3-test .taken in let b = last-bound (c .before .before .before .before .before .before .before .before .before) in let e = ends
     (c .before .before .before .before .before .before .before .before) .last in omega (arith, h, b, e)
 
-mul-slot-3 : tie.Need-mul-slot-3 Inv-loop2 μ-loop2 Inv-messages μ-messages Inv-loop3 μ-loop3 Inv-loop μ-loop
+mul-slot-3 : tie.Need-mul-slot-3 Inv-loop2 μ-loop2 Inv-messages μ-messages Inv-loop3 μ-loop3 Inv-loop4 μ-loop4 Inv-loop μ-loop
 mul-slot-3 c = small (let h = (c .before .before) .loop3 .inv .0 in omega (arith, h))
 
-element-set-from-slot : tie.Need-element-set-from-slot Inv-loop2 μ-loop2 Inv-messages μ-messages Inv-loop3 μ-loop3 Inv-loop μ-loop
+element-set-from-slot : tie.Need-element-set-from-slot Inv-loop2 μ-loop2 Inv-messages μ-messages Inv-loop3 μ-loop3 Inv-loop4 μ-loop4 Inv-loop μ-loop
 element-set-from-slot c = let h = (c .before) .loop3-test .taken in let b = last-bound (c .before .before .before .before .before .before .before .before .before .before) in let e = ends
     (c .before .before .before .before .before .before .before .before .before) .last in omega (arith, h, b, e)
 
-add-m-2 : tie.Need-add-m-2 Inv-loop2 μ-loop2 Inv-messages μ-messages Inv-loop3 μ-loop3 Inv-loop μ-loop
+add-m-2 : tie.Need-add-m-2 Inv-loop2 μ-loop2 Inv-messages μ-messages Inv-loop3 μ-loop3 Inv-loop4 μ-loop4 Inv-loop μ-loop
 add-m-2 c = small (let h = (c .before .before) .loop3 .inv .0 in omega (arith, h))
 
-loop3-less : tie.Need-loop3-less Inv-loop2 μ-loop2 Inv-messages μ-messages Inv-loop3 μ-loop3 Inv-loop μ-loop
+loop3-less : tie.Need-loop3-less Inv-loop2 μ-loop2 Inv-messages μ-messages Inv-loop3 μ-loop3 Inv-loop4 μ-loop4 Inv-loop μ-loop
 loop3-less c = let h = (c .before) .loop3-test .taken in omega (arith, h)
 
-loop3-again : tie.Need-loop3-again Inv-loop2 μ-loop2 Inv-messages μ-messages Inv-loop3 μ-loop3 Inv-loop μ-loop
+loop3-again : tie.Need-loop3-again Inv-loop2 μ-loop2 Inv-messages μ-messages Inv-loop3 μ-loop3 Inv-loop4 μ-loop4 Inv-loop μ-loop
 loop3-again c =
     let t = (c .before .before .before .before .before .before .before .before .before .before) in
     let v = (c .before .before) .loop3 .inv in
@@ -713,67 +709,67 @@ loop3-again c =
     let slots = set (q .slots) ((c .before .before) .loop3 .m) (getD (q .slots) ((c .before .before) .loop3 .m + 1) noMessage) in
     (omega (arith, h, b, e), ap (λ (k : Node). withSlots k slots) (v .1), moved-more noMessage (v .2) h room)
 
-mul-join : tie.Need-mul-join Inv-loop2 μ-loop2 Inv-messages μ-messages Inv-loop3 μ-loop3 Inv-loop μ-loop
+mul-join : tie.Need-mul-join Inv-loop2 μ-loop2 Inv-messages μ-messages Inv-loop3 μ-loop3 Inv-loop4 μ-loop4 Inv-loop μ-loop
 mul-join c = small (let h = at-bound (c .before .before .before .before .before .before .before) in omega (arith, h))
 
-up-to-requires-2 : tie.Need-up-to-requires-2 Inv-loop2 μ-loop2 Inv-messages μ-messages Inv-loop3 μ-loop3 Inv-loop μ-loop
+up-to-requires-2 : tie.Need-up-to-requires-2 Inv-loop2 μ-loop2 Inv-messages μ-messages Inv-loop3 μ-loop3 Inv-loop4 μ-loop4 Inv-loop μ-loop
 up-to-requires-2 c κs = tt
 
-add-join : tie.Need-add-join Inv-loop2 μ-loop2 Inv-messages μ-messages Inv-loop3 μ-loop3 Inv-loop μ-loop
+add-join : tie.Need-add-join Inv-loop2 μ-loop2 Inv-messages μ-messages Inv-loop3 μ-loop3 Inv-loop4 μ-loop4 Inv-loop μ-loop
 add-join c = small (let h = at-bound (c .before .before .before .before .before .before .before .before) in let e = c .up-to2 .ensures in omega (arith, h, e))
 
-mul-t104 : tie.Need-mul-t104 Inv-loop2 μ-loop2 Inv-messages μ-messages Inv-loop3 μ-loop3 Inv-loop μ-loop
-mul-t104 c = small (let h = at-bound (c .before .before .before .before .before .before .before .before) in let e = c .up-to2 .ensures in omega (arith, h, e))
+mul-t103 : tie.Need-mul-t103 Inv-loop2 μ-loop2 Inv-messages μ-messages Inv-loop3 μ-loop3 Inv-loop4 μ-loop4 Inv-loop μ-loop
+mul-t103 c = small (let h = at-bound (c .before .before .before .before .before .before .before .before) in let e = c .up-to2 .ensures in omega (arith, h, e))
 
-element-set-from-node : tie.Need-element-set-from-node Inv-loop2 μ-loop2 Inv-messages μ-messages Inv-loop3 μ-loop3 Inv-loop μ-loop
+element-set-from-node : tie.Need-element-set-from-node Inv-loop2 μ-loop2 Inv-messages μ-messages Inv-loop3 μ-loop3 Inv-loop4 μ-loop4 Inv-loop μ-loop
 element-set-from-node c = let h = at-bound (c .before .before .before .before .before .before .before .before) in let e = c .up-to2 .ensures in omega (arith, h, e)
 
-risen-requires : tie.Need-risen-requires Inv-loop2 μ-loop2 Inv-messages μ-messages Inv-loop3 μ-loop3 Inv-loop μ-loop
+risen-requires : tie.Need-risen-requires Inv-loop2 μ-loop2 Inv-messages μ-messages Inv-loop3 μ-loop3 Inv-loop4 μ-loop4 Inv-loop μ-loop
 risen-requires c κs = tt
 
-element-write-node-2 : tie.Need-element-write-node-2 Inv-loop2 μ-loop2 Inv-messages μ-messages Inv-loop3 μ-loop3 Inv-loop μ-loop
+element-write-node-2 : tie.Need-element-write-node-2 Inv-loop2 μ-loop2 Inv-messages μ-messages Inv-loop3 μ-loop3 Inv-loop4 μ-loop4 Inv-loop μ-loop
 element-write-node-2 c = at-bound (c .before .before .before .before .before .before .before .before .before)
 
-row-index-requires-2 : tie.Need-row-index-requires-2 Inv-loop2 μ-loop2 Inv-messages μ-messages Inv-loop3 μ-loop3 Inv-loop μ-loop
+row-index-requires-2 : tie.Need-row-index-requires-2 Inv-loop2 μ-loop2 Inv-messages μ-messages Inv-loop3 μ-loop3 Inv-loop4 μ-loop4 Inv-loop μ-loop
 row-index-requires-2 c κs = tt
 
-element-copy-out-sent : tie.Need-element-copy-out-sent Inv-loop2 μ-loop2 Inv-messages μ-messages Inv-loop3 μ-loop3 Inv-loop μ-loop
+element-copy-out-sent : tie.Need-element-copy-out-sent Inv-loop2 μ-loop2 Inv-messages μ-messages Inv-loop3 μ-loop3 Inv-loop4 μ-loop4 Inv-loop μ-loop
 element-copy-out-sent c = c .row-index2 .ensures .1
 
-cell-index-requires : tie.Need-cell-index-requires Inv-loop2 μ-loop2 Inv-messages μ-messages Inv-loop3 μ-loop3 Inv-loop μ-loop
+cell-index-requires : tie.Need-cell-index-requires Inv-loop2 μ-loop2 Inv-messages μ-messages Inv-loop3 μ-loop3 Inv-loop4 μ-loop4 Inv-loop μ-loop
 cell-index-requires c κs = (c .before) .row-index2 .ensures .1
 
-mul-t116 : tie.Need-mul-t116 Inv-loop2 μ-loop2 Inv-messages μ-messages Inv-loop3 μ-loop3 Inv-loop μ-loop
-mul-t116 c = small (let h = c .cell-index .ensures .1 in omega (arith, h))
+mul-t115 : tie.Need-mul-t115 Inv-loop2 μ-loop2 Inv-messages μ-messages Inv-loop3 μ-loop3 Inv-loop4 μ-loop4 Inv-loop μ-loop
+mul-t115 c = small (let h = c .cell-index .ensures .1 in omega (arith, h))
 
-element-set-from-node-2 : tie.Need-element-set-from-node-2 Inv-loop2 μ-loop2 Inv-messages μ-messages Inv-loop3 μ-loop3 Inv-loop μ-loop
+element-set-from-node-2 : tie.Need-element-set-from-node-2 Inv-loop2 μ-loop2 Inv-messages μ-messages Inv-loop3 μ-loop3 Inv-loop4 μ-loop4 Inv-loop μ-loop
 element-set-from-node-2 c = c .cell-index .ensures .1
 
-risen-requires-2 : tie.Need-risen-requires-2 Inv-loop2 μ-loop2 Inv-messages μ-messages Inv-loop3 μ-loop3 Inv-loop μ-loop
+risen-requires-2 : tie.Need-risen-requires-2 Inv-loop2 μ-loop2 Inv-messages μ-messages Inv-loop3 μ-loop3 Inv-loop4 μ-loop4 Inv-loop μ-loop
 risen-requires-2 c κs = tt
 
-element-write-node-3 : tie.Need-element-write-node-3 Inv-loop2 μ-loop2 Inv-messages μ-messages Inv-loop3 μ-loop3 Inv-loop μ-loop
+element-write-node-3 : tie.Need-element-write-node-3 Inv-loop2 μ-loop2 Inv-messages μ-messages Inv-loop3 μ-loop3 Inv-loop4 μ-loop4 Inv-loop μ-loop
 element-write-node-3 c = (c .before .before .before) .row-index2 .ensures .1
 
-process-index-requires-2 : tie.Need-process-index-requires-2 Inv-loop2 μ-loop2 Inv-messages μ-messages Inv-loop3 μ-loop3 Inv-loop μ-loop
+process-index-requires-2 : tie.Need-process-index-requires-2 Inv-loop2 μ-loop2 Inv-messages μ-messages Inv-loop3 μ-loop3 Inv-loop4 μ-loop4 Inv-loop μ-loop
 process-index-requires-2 c κs = tt
 
-fresh-requires : tie.Need-fresh-requires Inv-loop2 μ-loop2 Inv-messages μ-messages Inv-loop3 μ-loop3 Inv-loop μ-loop
+fresh-requires : tie.Need-fresh-requires Inv-loop2 μ-loop2 Inv-messages μ-messages Inv-loop3 μ-loop3 Inv-loop4 μ-loop4 Inv-loop μ-loop
 fresh-requires c κs = tt
 
-mul-t123 : tie.Need-mul-t123 Inv-loop2 μ-loop2 Inv-messages μ-messages Inv-loop3 μ-loop3 Inv-loop μ-loop
-mul-t123 c = small (let h = (c .before .before) .process-index2 .ensures .1 in omega (arith, h))
+mul-t122 : tie.Need-mul-t122 Inv-loop2 μ-loop2 Inv-messages μ-messages Inv-loop3 μ-loop3 Inv-loop4 μ-loop4 Inv-loop μ-loop
+mul-t122 c = small (let h = (c .before .before) .process-index2 .ensures .1 in omega (arith, h))
 
-element-set-from-node-3 : tie.Need-element-set-from-node-3 Inv-loop2 μ-loop2 Inv-messages μ-messages Inv-loop3 μ-loop3 Inv-loop μ-loop
+element-set-from-node-3 : tie.Need-element-set-from-node-3 Inv-loop2 μ-loop2 Inv-messages μ-messages Inv-loop3 μ-loop3 Inv-loop4 μ-loop4 Inv-loop μ-loop
 element-set-from-node-3 c = (c .before .before) .process-index2 .ensures .1
 
-element-write-node-4 : tie.Need-element-write-node-4 Inv-loop2 μ-loop2 Inv-messages μ-messages Inv-loop3 μ-loop3 Inv-loop μ-loop
+element-write-node-4 : tie.Need-element-write-node-4 Inv-loop2 μ-loop2 Inv-messages μ-messages Inv-loop3 μ-loop3 Inv-loop4 μ-loop4 Inv-loop μ-loop
 element-write-node-4 c = (c .before .before) .process-index2 .ensures .1
 
-loop-less-2 : tie.Need-loop-less-2 Inv-loop2 μ-loop2 Inv-messages μ-messages Inv-loop3 μ-loop3 Inv-loop μ-loop
+loop-less-2 : tie.Need-loop-less-2 Inv-loop2 μ-loop2 Inv-messages μ-messages Inv-loop3 μ-loop3 Inv-loop4 μ-loop4 Inv-loop μ-loop
 loop-less-2 c = let h = in-list (c .before .before .before .before .before .before .before .before .before .before .before .before) in omega (arith, h)
 
-loop-again-2 : tie.Need-loop-again-2 Inv-loop2 μ-loop2 Inv-messages μ-messages Inv-loop3 μ-loop3 Inv-loop μ-loop
+loop-again-2 : tie.Need-loop-again-2 Inv-loop2 μ-loop2 Inv-messages μ-messages Inv-loop3 μ-loop3 Inv-loop4 μ-loop4 Inv-loop μ-loop
 loop-again-2 c =
     let t = (c .before .before .before .before .before .before .before .before .before .before .before .before) in
     let w = commits (c .before .before .before .before .before .before .before .before .before) ((c .before .before .before .before .before .before .before .before) .if5 .left) in
@@ -782,100 +778,106 @@ loop-again-2 c =
     (E t) (E-says t) (w .cleared) w ((c .before .before .before) .if11 .taken))
     (w .answer)
 
-mul-f : tie.Need-mul-f Inv-loop2 μ-loop2 Inv-messages μ-messages Inv-loop3 μ-loop3 Inv-loop μ-loop
+mul-f : tie.Need-mul-f Inv-loop2 μ-loop2 Inv-messages μ-messages Inv-loop3 μ-loop3 Inv-loop4 μ-loop4 Inv-loop μ-loop
 mul-f c = small (let h = arrival-bound (c .before .before .before .before .before .before .before .before .before .before) in omega (arith, h))
 
-add-c1 : tie.Need-add-c1 Inv-loop2 μ-loop2 Inv-messages μ-messages Inv-loop3 μ-loop3 Inv-loop μ-loop
-add-c1 c = small (let h = arrival-bound (c .before .before .before .before .before .before .before .before .before .before) in omega (arith, h))
+mul-last : tie.Need-mul-last Inv-loop2 μ-loop2 Inv-messages μ-messages Inv-loop3 μ-loop3 Inv-loop4 μ-loop4 Inv-loop μ-loop
+mul-last c = small (let h = arrival-bound (c .before .before .before .before .before .before .before .before .before .before) in omega (arith, h))
 
-mul-c1 : tie.Need-mul-c1 Inv-loop2 μ-loop2 Inv-messages μ-messages Inv-loop3 μ-loop3 Inv-loop μ-loop
-mul-c1 c = small (let h = arrival-bound (c .before .before .before .before .before .before .before .before .before .before) in omega (arith, h))
+add-last : tie.Need-add-last Inv-loop2 μ-loop2 Inv-messages μ-messages Inv-loop3 μ-loop3 Inv-loop4 μ-loop4 Inv-loop μ-loop
+add-last c = small (let h = arrival-bound (c .before .before .before .before .before .before .before .before .before .before) in omega (arith, h))
 
-element-copy-out-c1 : tie.Need-element-copy-out-c1 Inv-loop2 μ-loop2 Inv-messages μ-messages Inv-loop3 μ-loop3 Inv-loop μ-loop
-element-copy-out-c1 c = let h = arrival-bound (c .before .before .before .before .before .before .before .before .before .before) in omega (arith, h)
+loop4-holds : tie.Need-loop4-holds Inv-loop2 μ-loop2 Inv-messages μ-messages Inv-loop3 μ-loop3 Inv-loop4 μ-loop4 Inv-loop μ-loop
+loop4-holds c = (refl, moved-start _ _ _)
 
-add-c2 : tie.Need-add-c2 Inv-loop2 μ-loop2 Inv-messages μ-messages Inv-loop3 μ-loop3 Inv-loop μ-loop
-add-c2 c = small (let h = arrival-bound (c .before .before .before .before .before .before .before .before .before .before .before) in omega (arith, h))
+-- the cell that moves up stands in the array
+next-cell : (c : tie.In-loop4 Inv-loop2 μ-loop2 Inv-messages μ-messages Inv-loop3 μ-loop3 Inv-loop4 μ-loop4 Inv-loop μ-loop) → (c .before) .loop4 .f + 1 < 1024
+next-cell c =
+    let h = c .loop4-test .taken in
+    let b = arrival-bound (c .before .before .before .before .before .before .before .before .before .before .before .before) in
+    omega (arith, h, b)
 
-mul-c2 : tie.Need-mul-c2 Inv-loop2 μ-loop2 Inv-messages μ-messages Inv-loop3 μ-loop3 Inv-loop μ-loop
-mul-c2 c = small (let h = arrival-bound (c .before .before .before .before .before .before .before .before .before .before .before) in omega (arith, h))
+add-cell : tie.Need-add-cell Inv-loop2 μ-loop2 Inv-messages μ-messages Inv-loop3 μ-loop3 Inv-loop4 μ-loop4 Inv-loop μ-loop
+add-cell c = small (let h = next-cell c in omega (arith, h))
 
-element-copy-out-c2 : tie.Need-element-copy-out-c2 Inv-loop2 μ-loop2 Inv-messages μ-messages Inv-loop3 μ-loop3 Inv-loop μ-loop
-element-copy-out-c2 c = let h = arrival-bound (c .before .before .before .before .before .before .before .before .before .before .before) in omega (arith, h)
+mul-cell : tie.Need-mul-cell Inv-loop2 μ-loop2 Inv-messages μ-messages Inv-loop3 μ-loop3 Inv-loop4 μ-loop4 Inv-loop μ-loop
+mul-cell c = small (let h = next-cell c in omega (arith, h))
 
-add-c3 : tie.Need-add-c3 Inv-loop2 μ-loop2 Inv-messages μ-messages Inv-loop3 μ-loop3 Inv-loop μ-loop
-add-c3 c = small (let h = arrival-bound (c .before .before .before .before .before .before .before .before .before .before .before .before) in omega (arith, h))
+element-copy-out-cell : tie.Need-element-copy-out-cell Inv-loop2 μ-loop2 Inv-messages μ-messages Inv-loop3 μ-loop3 Inv-loop4 μ-loop4 Inv-loop μ-loop
+element-copy-out-cell c = next-cell c
 
-mul-c3 : tie.Need-mul-c3 Inv-loop2 μ-loop2 Inv-messages μ-messages Inv-loop3 μ-loop3 Inv-loop μ-loop
-mul-c3 c = small (let h = arrival-bound (c .before .before .before .before .before .before .before .before .before .before .before .before) in omega (arith, h))
+mul-cell-2 : tie.Need-mul-cell-2 Inv-loop2 μ-loop2 Inv-messages μ-messages Inv-loop3 μ-loop3 Inv-loop4 μ-loop4 Inv-loop μ-loop
+mul-cell-2 c = small (let h = next-cell (c .before) in omega (arith, h))
 
-element-copy-out-c3 : tie.Need-element-copy-out-c3 Inv-loop2 μ-loop2 Inv-messages μ-messages Inv-loop3 μ-loop3 Inv-loop μ-loop
-element-copy-out-c3 c = let h = arrival-bound (c .before .before .before .before .before .before .before .before .before .before .before .before) in omega (arith, h)
+element-set-from-cell : tie.Need-element-set-from-cell Inv-loop2 μ-loop2 Inv-messages μ-messages Inv-loop3 μ-loop3 Inv-loop4 μ-loop4 Inv-loop μ-loop
+element-set-from-cell c = let h = next-cell (c .before) in omega (arith, h)
 
-mul-c1-2 : tie.Need-mul-c1-2 Inv-loop2 μ-loop2 Inv-messages μ-messages Inv-loop3 μ-loop3 Inv-loop μ-loop
-mul-c1-2 c = small (let h = arrival-bound (c .before .before .before .before .before .before .before .before .before .before .before .before .before) in omega (arith, h))
+add-f : tie.Need-add-f Inv-loop2 μ-loop2 Inv-messages μ-messages Inv-loop3 μ-loop3 Inv-loop4 μ-loop4 Inv-loop μ-loop
+add-f c = small (let h = next-cell (c .before) in omega (arith, h))
 
-element-set-from-c1 : tie.Need-element-set-from-c1 Inv-loop2 μ-loop2 Inv-messages μ-messages Inv-loop3 μ-loop3 Inv-loop μ-loop
-element-set-from-c1 c = let h = arrival-bound (c .before .before .before .before .before .before .before .before .before .before .before .before .before) in omega (arith, h)
+loop4-less : tie.Need-loop4-less Inv-loop2 μ-loop2 Inv-messages μ-messages Inv-loop3 μ-loop3 Inv-loop4 μ-loop4 Inv-loop μ-loop
+loop4-less c = let h = (c .before) .loop4-test .taken in omega (arith, h)
 
-add-c2-2 : tie.Need-add-c2-2 Inv-loop2 μ-loop2 Inv-messages μ-messages Inv-loop3 μ-loop3 Inv-loop μ-loop
-add-c2-2 c = small (let h = arrival-bound (c .before .before .before .before .before .before .before .before .before .before .before .before .before) in omega (arith, h))
+loop4-again : tie.Need-loop4-again Inv-loop2 μ-loop2 Inv-messages μ-messages Inv-loop3 μ-loop3 Inv-loop4 μ-loop4 Inv-loop μ-loop
+loop4-again c =
+    let t = (c .before .before .before .before .before .before .before .before .before .before .before .before .before) in
+    let v = (c .before .before) .loop4 .inv in
+    let q = (c .before .before) .loop4 .node in
+    let h = (c .before) .loop4-test .taken in
+    let b = arrival-bound t in
+    let clear = commits (c .before .before .before .before .before .before .before .before .before .before) ((c .before .before .before .before .before .before .before .before .before) .if5 .left) .cleared in
+    let size : length ((c .before .before .before .before .before) .if10 .node .cells) ≡ 1024 = ap (λ (x : Node). length (x .cells)) (stored-is (c .before .before .before .before .before))
+    ∙ stored-cells (N t) (N-sound t) (T t) (T-means t) (E t) (E-says t) clear in
+    let room : 4 * T t .row + 3 + 1 ≤ length ((c .before .before .before .before .before) .if10 .node .cells) = subst (λ (k : ℕ). 4 * T t .row + 3 + 1 ≤ k) (sym size) (omega (arith, b)) in
+    ((λ i. withCells (v .0 i) (set (q .cells) ((c .before .before) .loop4 .f) (getD (q .cells) ((c .before .before) .loop4 .f + 1) noSignal))), moved-more noSignal (v .1) (omega (arith, h)) room)
 
-mul-c2-2 : tie.Need-mul-c2-2 Inv-loop2 μ-loop2 Inv-messages μ-messages Inv-loop3 μ-loop3 Inv-loop μ-loop
-mul-c2-2 c = small (let h = arrival-bound (c .before .before .before .before .before .before .before .before .before .before .before .before .before) in omega (arith, h))
-
-element-set-from-c2 : tie.Need-element-set-from-c2 Inv-loop2 μ-loop2 Inv-messages μ-messages Inv-loop3 μ-loop3 Inv-loop μ-loop
-element-set-from-c2 c = let h = arrival-bound (c .before .before .before .before .before .before .before .before .before .before .before .before .before) in omega (arith, h)
-
-add-c3-2 : tie.Need-add-c3-2 Inv-loop2 μ-loop2 Inv-messages μ-messages Inv-loop3 μ-loop3 Inv-loop μ-loop
-add-c3-2 c = small (let h = arrival-bound (c .before .before .before .before .before .before .before .before .before .before .before .before .before) in omega (arith, h))
-
-mul-c3-2 : tie.Need-mul-c3-2 Inv-loop2 μ-loop2 Inv-messages μ-messages Inv-loop3 μ-loop3 Inv-loop μ-loop
-mul-c3-2 c = small (let h = arrival-bound (c .before .before .before .before .before .before .before .before .before .before .before .before .before) in omega (arith, h))
-
-element-set-from-c3 : tie.Need-element-set-from-c3 Inv-loop2 μ-loop2 Inv-messages μ-messages Inv-loop3 μ-loop3 Inv-loop μ-loop
-element-set-from-c3 c = let h = arrival-bound (c .before .before .before .before .before .before .before .before .before .before .before .before .before) in omega (arith, h)
-
-blank-requires : tie.Need-blank-requires Inv-loop2 μ-loop2 Inv-messages μ-messages Inv-loop3 μ-loop3 Inv-loop μ-loop
+blank-requires : tie.Need-blank-requires Inv-loop2 μ-loop2 Inv-messages μ-messages Inv-loop3 μ-loop3 Inv-loop4 μ-loop4 Inv-loop μ-loop
 blank-requires c κs = tt
 
-add-t128 : tie.Need-add-t128 Inv-loop2 μ-loop2 Inv-messages μ-messages Inv-loop3 μ-loop3 Inv-loop μ-loop
-add-t128 c = small (let h = arrival-bound (c .before .before .before .before .before .before .before .before .before .before .before .before .before .before) in omega (arith, h))
+mul-t127 : tie.Need-mul-t127 Inv-loop2 μ-loop2 Inv-messages μ-messages Inv-loop3 μ-loop3 Inv-loop4 μ-loop4 Inv-loop μ-loop
+mul-t127 c = small (let h = arrival-bound (c .before .before .before .before .before .before .before .before .before .before .before .before .before) in omega (arith, h))
 
-mul-t129 : tie.Need-mul-t129 Inv-loop2 μ-loop2 Inv-messages μ-messages Inv-loop3 μ-loop3 Inv-loop μ-loop
-mul-t129 c = small (let h = arrival-bound (c .before .before .before .before .before .before .before .before .before .before .before .before .before .before) in omega (arith, h))
+element-set-from-node-4 : tie.Need-element-set-from-node-4 Inv-loop2 μ-loop2 Inv-messages μ-messages Inv-loop3 μ-loop3 Inv-loop4 μ-loop4 Inv-loop μ-loop
+element-set-from-node-4 c = let h = arrival-bound (c .before .before .before .before .before .before .before .before .before .before .before .before .before) in omega (arith, h)
 
-element-set-from-node-4 : tie.Need-element-set-from-node-4 Inv-loop2 μ-loop2 Inv-messages μ-messages Inv-loop3 μ-loop3 Inv-loop μ-loop
-element-set-from-node-4 c = let h = arrival-bound (c .before .before .before .before .before .before .before .before .before .before .before .before .before .before) in omega (arith, h)
+element-copy-out-fallen : tie.Need-element-copy-out-fallen Inv-loop2 μ-loop2 Inv-messages μ-messages Inv-loop3 μ-loop3 Inv-loop4 μ-loop4 Inv-loop μ-loop
+element-copy-out-fallen c = arrival-bound (c .before .before .before .before .before .before .before .before .before .before .before .before .before)
 
-element-copy-out-fallen : tie.Need-element-copy-out-fallen Inv-loop2 μ-loop2 Inv-messages μ-messages Inv-loop3 μ-loop3 Inv-loop μ-loop
-element-copy-out-fallen c = arrival-bound (c .before .before .before .before .before .before .before .before .before .before .before .before .before .before)
-
-fallen-requires-2 : tie.Need-fallen-requires-2 Inv-loop2 μ-loop2 Inv-messages μ-messages Inv-loop3 μ-loop3 Inv-loop μ-loop
+fallen-requires-2 : tie.Need-fallen-requires-2 Inv-loop2 μ-loop2 Inv-messages μ-messages Inv-loop3 μ-loop3 Inv-loop4 μ-loop4 Inv-loop μ-loop
 fallen-requires-2 c κs = tt
 
-element-write-node-5 : tie.Need-element-write-node-5 Inv-loop2 μ-loop2 Inv-messages μ-messages Inv-loop3 μ-loop3 Inv-loop μ-loop
-element-write-node-5 c = arrival-bound (c .before .before .before .before .before .before .before .before .before .before .before .before .before .before .before .before)
+element-write-node-5 : tie.Need-element-write-node-5 Inv-loop2 μ-loop2 Inv-messages μ-messages Inv-loop3 μ-loop3 Inv-loop4 μ-loop4 Inv-loop μ-loop
+element-write-node-5 c = arrival-bound (c .before .before .before .before .before .before .before .before .before .before .before .before .before .before .before)
 
-loop-less-3 : tie.Need-loop-less-3 Inv-loop2 μ-loop2 Inv-messages μ-messages Inv-loop3 μ-loop3 Inv-loop μ-loop
-loop-less-3 c = let h = in-list (c .before .before .before .before .before .before .before .before .before .before .before .before .before .before .before .before) in omega (arith, h)
+loop-less-3 : tie.Need-loop-less-3 Inv-loop2 μ-loop2 Inv-messages μ-messages Inv-loop3 μ-loop3 Inv-loop4 μ-loop4 Inv-loop μ-loop
+loop-less-3 c = let h = in-list (c .before .before .before .before .before .before .before .before .before .before .before .before .before .before .before) in omega (arith, h)
 
-loop-again-3 : tie.Need-loop-again-3 Inv-loop2 μ-loop2 Inv-messages μ-messages Inv-loop3 μ-loop3 Inv-loop μ-loop
+loop-again-3 : tie.Need-loop-again-3 Inv-loop2 μ-loop2 Inv-messages μ-messages Inv-loop3 μ-loop3 Inv-loop4 μ-loop4 Inv-loop μ-loop
 loop-again-3 c =
-    let t = (c .before .before .before .before .before .before .before .before .before .before .before .before .before .before .before .before) in
-    let w = commits (c .before .before .before .before .before .before .before .before .before .before .before .before .before)
-    ((c .before .before .before .before .before .before .before .before .before .before .before .before) .if5 .left) in
-    let fewer = c .fallen2 .ensures ∙ ap (λ (q : Node). getD (q .counts) (T t .row) 0 - 1) (stored-is (c .before .before .before .before .before .before .before .before)) in
-    plays-on t ((c .before .before .before .before .before .before .before .before .before .before .before) .if7 .left) _ _
-    ((λ i. arrival-in (stored-is (c .before .before .before .before .before .before .before .before) i) (T t .row) ((c .before .before) .blank .ensures i) (fewer i))
-    ∙ stored-arrival (N t) (N-sound t) (T t) (T-means t) (E t) (E-says t) (w .cleared) w (arrival-bound t) ((c .before .before .before .before .before .before) .if12 .taken)
-    ((c .before .before .before .before .before .before .before) .if11 .left))
+    let t = (c .before .before .before .before .before .before .before .before .before .before .before .before .before .before .before) in
+    let stored = stored-is (c .before .before .before .before .before .before .before) in
+    let behind = flight (c .before .before .before .before .before .before .before) in
+    let w = commits (c .before .before .before .before .before .before .before .before .before .before .before .before)
+    ((c .before .before .before .before .before .before .before .before .before .before .before) .if5 .left) in
+    let v = (c .before .before .before .before) .loop4 .inv in
+    let q = (c .before .before .before .before) .loop4 .node in
+    let shift : List Cell → List Cell = up (4 * T t .row) (4 * T t .row + 4) in
+    let end : 4 * T t .row + 3 + 1 ≡ 4 * T t .row + 4 = omega arith in
+    let h = (c .before .before .before) .loop4-test .left in
+    let cells = moved-end (v .1) (omega (arith, h)) ∙ ap (λ (k : ℕ). up (4 * T t .row) k ((c .before .before .before .before .before .before .before) .if10 .node .cells)) end in
+    let moved : q ≡ withCells (made (N t) _ _ behind) (shift (behind .cells)) =
+    v .0 ∙ ap (withCells ((c .before .before .before .before .before .before .before) .if10 .node)) cells ∙ ap (λ (x : Node). withCells x (shift (x .cells))) stored in
+    let fewer = c .fallen2 .ensures ∙ ap (λ (x : Node). getD (x .counts) (T t .row) 0 - 1) moved in
+    plays-on t ((c .before .before .before .before .before .before .before .before .before .before) .if7 .left) _ _
+    ((λ i. arrival-in (moved i) (T t .row) ((c .before .before) .blank .ensures i) (fewer i))
+    ∙ stored-arrival (N t) (N-sound t) (T t) (T-means t) (E t) (E-says t) (w .cleared) w (arrival-bound t)
+    ((c .before .before .before .before .before) .if12 .taken) ((c .before .before .before .before .before .before) .if11 .left))
     (w .answer)
 
-loop-less-4 : tie.Need-loop-less-4 Inv-loop2 μ-loop2 Inv-messages μ-messages Inv-loop3 μ-loop3 Inv-loop μ-loop
+loop-less-4 : tie.Need-loop-less-4 Inv-loop2 μ-loop2 Inv-messages μ-messages Inv-loop3 μ-loop3 Inv-loop4 μ-loop4 Inv-loop μ-loop
 loop-less-4 c = let h = in-list (c .before .before .before .before .before .before .before .before .before .before) in omega (arith, h)
 
-loop-again-4 : tie.Need-loop-again-4 Inv-loop2 μ-loop2 Inv-messages μ-messages Inv-loop3 μ-loop3 Inv-loop μ-loop
+loop-again-4 : tie.Need-loop-again-4 Inv-loop2 μ-loop2 Inv-messages μ-messages Inv-loop3 μ-loop3 Inv-loop4 μ-loop4 Inv-loop μ-loop
 loop-again-4 c =
     let t = (c .before .before .before .before .before .before .before .before .before .before) in
     let w = commits (c .before .before .before .before .before .before .before) ((c .before .before .before .before .before .before) .if5 .left) in
@@ -883,10 +885,10 @@ loop-again-4 c =
     (stored-is (c .before .before) ∙ stored-run (N t) (N-sound t) (T t) (T-means t) (E t) (E-says t) (w .cleared) w (c .if12 .left) ((c .before) .if11 .left))
     (w .answer)
 
-ended-requires-3 : tie.Need-ended-requires-3 Inv-loop2 μ-loop2 Inv-messages μ-messages Inv-loop3 μ-loop3 Inv-loop μ-loop
+ended-requires-3 : tie.Need-ended-requires-3 Inv-loop2 μ-loop2 Inv-messages μ-messages Inv-loop3 μ-loop3 Inv-loop4 μ-loop4 Inv-loop μ-loop
 ended-requires-3 c κs = tt
 
-returns-3 : tie.Need-returns-3 Inv-loop2 μ-loop2 Inv-messages μ-messages Inv-loop3 μ-loop3 Inv-loop μ-loop
+returns-3 : tie.Need-returns-3 Inv-loop2 μ-loop2 Inv-messages μ-messages Inv-loop3 μ-loop3 Inv-loop4 μ-loop4 Inv-loop μ-loop
 returns-3 c =
     let v = (c .before .before) .loop .inv in
     let h = (c .before) .loop-test .left in
@@ -908,6 +910,8 @@ core-spec =
     μ-messages
     Inv-loop3
     μ-loop3
+    Inv-loop4
+    μ-loop4
     Inv-loop
     μ-loop
     loop-holds
@@ -979,45 +983,38 @@ core-spec =
     mul-join
     up-to-requires-2
     add-join
-    mul-t104
+    mul-t103
     element-set-from-node
     risen-requires
     element-write-node-2
     row-index-requires-2
     element-copy-out-sent
     cell-index-requires
-    mul-t116
+    mul-t115
     element-set-from-node-2
     risen-requires-2
     element-write-node-3
     process-index-requires-2
     fresh-requires
-    mul-t123
+    mul-t122
     element-set-from-node-3
     element-write-node-4
     loop-less-2
     loop-again-2
     mul-f
-    add-c1
-    mul-c1
-    element-copy-out-c1
-    add-c2
-    mul-c2
-    element-copy-out-c2
-    add-c3
-    mul-c3
-    element-copy-out-c3
-    mul-c1-2
-    element-set-from-c1
-    add-c2-2
-    mul-c2-2
-    element-set-from-c2
-    add-c3-2
-    mul-c3-2
-    element-set-from-c3
+    mul-last
+    add-last
+    loop4-holds
+    add-cell
+    mul-cell
+    element-copy-out-cell
+    mul-cell-2
+    element-set-from-cell
+    add-f
+    loop4-less
+    loop4-again
     blank-requires
-    add-t128
-    mul-t129
+    mul-t127
     element-set-from-node-4
     element-copy-out-fallen
     fallen-requires-2

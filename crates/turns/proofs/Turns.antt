@@ -9,7 +9,7 @@ use mathlib.Core.List.{List, [], _∷_}
 use mathlib.Core.Logic.{_⊎_, inl, inr, ⊎-elim}
 use mathlib.Core.Option.{Option, none, some}
 use mathlib.Core.Path.{_≡_, refl, sym, _∙_, ap, subst}
-use Prim.Native.Nat.{ℕ, _+_, _-_, _*_, _≤_, _<_, min}
+use Prim.Native.Nat.{ℕ, _+_, _-_, _*_, _%_, _≤_, _<_, min}
 use native.Mathlib.Decide.{ℕ-discrete}
 use native.Mathlib.Nat.{add-zero}
 use native.Mathlib.Omega.{arith}
@@ -56,10 +56,9 @@ use Rattle.rules.proofs.Paths.{behaviour-bounds, code-length, code-bound, code-
 use Rattle.rules.proofs.Records.{number-bounds}
 use Rattle.rules.proofs.Shape.{Sized}
 use Rattle.node.proofs.Blocks.{Room, whole as whole-block, changed-comm, changed-same, joined-keeps, popped-keeps, popped-joined}
-use Rattle.engine.specs.Stores.{cellAt}
-use Rattle.engine.proofs.Changes.{searchedOf, waitingNext, sentNext, cellNext, slotNext}
-use Rattle.engine.proofs.Recv.{AtRecv, only-recv}
-use Rattle.engine.proofs.Stores.{up-end, movedUp, store-joined, store-left, store-emptied, store-popped}
+use Rattle.turns.proofs.Changes.{cellAt, searchedOf, waitingNext, sentNext, cellNext, slotNext}
+use Rattle.turns.proofs.Recv.{AtRecv, only-recv}
+use Rattle.turns.proofs.Stores.{up-end, store-joined, store-left, store-emptied, store-popped}
 
 -- ---- a signal, and a search
 
@@ -127,12 +126,12 @@ module _ (n : Node) (whole : Parts n) (i : ℕ) (number : So (isNumber i)) (live
   -- the op k places behind that of the process
   op-is : (k : ℕ) → Q .place + k < length (code n b) → getD (n .ops) (placeAt n Q + k) noOp ≡ getD (code n b) (Q .place + k) noOp
   op-is k h =
-      let x : min (32 * min (b - 1) 7 + Q .place) 255 + k ≡ 32 * (b - 1) + (Q .place + k) = omega (arith, known, short, h) in
+      let x : 32 * ((b - 1) % 8) + Q .place % 32 + k ≡ 32 * (b - 1) + (Q .place + k) = omega (arith, known, short, h) in
       rw x (sym (code-at n whole i number live (Q .place + k) h))
 
   stands-in : Stands n Q
   stands-in =
-      let w : min (b - 1) 7 ≡ b - 1 = omega (arith, known) in
+      let w : (b - 1) % 8 ≡ b - 1 = omega (arith, known) in
       let z : Q .place + 0 ≡ Q .place = add-zero (Q .place) in
       let y : placeAt n Q + 0 ≡ placeAt n Q = add-zero (placeAt n Q) in
       record {
@@ -726,6 +725,9 @@ module _ (n : Node) (sound : Sound n) {a : Action} (t : Decoded) (m : Means a t)
               ∙ store-joined noSignal 4 Y (flightShelf n) (flight-room Y row-bound) (cellOf (e .signal)) few (more .1)
               ∙ (λ x. record { cells = cells x; counts = counts x })
 
+      pub stored-cells : length (storedFlight .cells) ≡ 1024
+      stored-cells = length-set (n .cells) sentAt _ ∙ sizes .flight .cells
+
       -- ---- the node
 
       ok : t .bad ≡ false
@@ -793,20 +795,26 @@ module _ (n : Node) (sound : Sound n) {a : Action} (t : Decoded) (m : Means a t)
             ∙ sym (ap (withoutMail (withMail (mailShelf n) (owner a - 1) (w .effect .mail))) (w .born ∙ birth h) ∙ ap (changed 16 emptied (e .number .0 - 1)) (w .mail)) in
             λ x. made n (processes x) (mail x) (flight-stored (cleared-ready .births h) x)
 
+        -- and the signal that arrived has left its row
+        abbrev poppedFlight : Shelf Cell
+        poppedFlight = record {
+          cells = set (up (4 * t .row) (4 * t .row + 4) (storedFlight .cells)) (4 * t .row + 3) noSignal;
+          counts = set (storedFlight .counts) (t .row) (getD (storedFlight .counts) (t .row) 0 - 1);
+        }
+
         pub stored-arrival : t .row < 256 → t .arrives ≡ true → e .spawns ≡ false → made n (set (n .processes) (t .at) next) (storedMail k)
-            (record { cells = movedUp noSignal (4 * t .row) (storedFlight .cells); counts = set (storedFlight .counts) (t .row) (getD (storedFlight .counts) (t .row) 0 - 1) }) ≡ commit n a (w .effect)
+            poppedFlight ≡ commit n a (w .effect)
         unfolding commit signalWaits
         stored-arrival bound arr h =
             let action : a ≡ arrive i j = m .action ok ∙ rw arr in
             let row-is : t .row ≡ pair j i = m .row ok arr in
             let waits : 0 < length (row n j i) = ltb-true 0 (length (row n j i)) (rw action at (cleared-ready .waits)) in
             let held : 0 < getD (n .counts) (t .row) 0 = rw row-is (rw (signals-length (blockOf 4 (pair j i) (flightShelf n))) at waits) in
-            let cells : length (storedFlight .cells) ≡ 1024 = length-set (n .cells) sentAt _ ∙ sizes .flight .cells in
             let counts : length (storedFlight .counts) ≡ 256 = length-set (n .counts) Y _ ∙ sizes .flight .counts in
-            let room : Room 4 (t .row) storedFlight = record { cells = rw cells (omega (arith, bound)); counts = rw counts bound } in
-            let flight : record { cells = movedUp noSignal (4 * t .row) (storedFlight .cells); counts = set (storedFlight .counts) (t .row) (getD (storedFlight .counts) (t .row) 0 - 1) }
+            let room : Room 4 (t .row) storedFlight = record { cells = rw stored-cells (omega (arith, bound)); counts = rw counts bound } in
+            let flight : poppedFlight
             ≡ withSending (withArrival (flightShelf n) a) (owner a) (w .effect .sent) =
-            sym (store-popped noSignal (t .row) storedFlight room)
+            sym (store-popped noSignal 3 (t .row) storedFlight room)
             ∙ ap (changed 4 (popped noSignal) (t .row)) (sym sent-stored)
             ∙ leaves-joins (t .row) bound held
             ∙ ap (λ (r : ℕ). withSending (changed 4 (popped noSignal) r (flightShelf n)) (owner a) (sentOf e)) row-is

@@ -15,7 +15,7 @@ use lib.ListN.{length, getD, take, drop, set, length-take, length-drop, length-s
 use lib.Seq.{sets, sets-eq, set-comm, set-set, set-getD, drop-cons, drop-set-add, take-set-lt, take-nil, length-take-le, drop-drop, getD-take, getD-drop}
 use Rattle.node.specs.Blocks.{Block, Shelf, blockOf, changed, joined, up, left, popped, emptied}
 use Rattle.node.specs.Lists.{leave}
-use Rattle.node.proofs.Blocks.{Room, whole, up-length}
+use Rattle.node.proofs.Blocks.{Room, whole, set-sets, up-length}
 
 module _ {A : Type 0} where
   -- ---- a run of stores
@@ -141,30 +141,34 @@ module _ {A : Type 0} where
   unfolding changed emptied
   store-emptied d w k s = λ i. record { cells = sets-part d w (s .cells) (w * k) i; counts = set (s .counts) k 0 }
 
-  -- four places, read one by one
-  four-read : (d : A) (b : List A) → length b ≡ 4 → b ≡ getD b 0 d ∷ getD b 1 d ∷ getD b 2 d ∷ getD b 3 d ∷ []
-  four-read d [] h = absurd (omega arith)
-  four-read d (x ∷ []) h = absurd (omega arith)
-  four-read d (x ∷ y ∷ []) h = absurd (omega arith)
-  four-read d (x ∷ y ∷ z ∷ []) h = absurd (omega arith)
-  four-read d (x ∷ y ∷ z ∷ w ∷ []) h = refl
-  four-read d (x ∷ y ∷ z ∷ w ∷ v ∷ l) h = absurd (omega arith)
+  -- a store within a run of stores, behind the run
+  sets-set : (q l : List A) (f c : ℕ) (d : A) → c < length q → sets l f (set q c d) ≡ set (sets l f q) (f + c) d
+  sets-set [] l f c d h = absurd (not-suc-le-zero h)
+  sets-set (v ∷ vs) l f zero d h =
+      sym
+      (ap (λ (n : ℕ). set (sets (set l f v) (suc f) vs) n d) (add-zero f)
+      ∙ set-sets vs (set l f v) (suc f) f d (λ a g e. absurd (omega arith))
+      ∙ ap (λ (z : List A). sets z (suc f) vs) (set-set l f v d))
+  sets-set (v ∷ vs) l f (suc c) d h = sets-set vs (set l f v) (suc f) c d (le-of-suc-le-suc h) ∙ ap (λ (n : ℕ). set (sets (set l f v) (suc f) vs) n d) (suc-add f c ∙ sym (add-suc f c))
 
-  -- the stores of four places that move up
-  abbrev pub movedUp : A → ℕ → List A → List A
-  movedUp d a l = set (set (set (set l a (getD l (a + 1) d)) (a + 1) (getD l (a + 2) d)) (a + 2) (getD l (a + 3) d)) (a + 3) d
+  -- the first of n + 1 leaves: those behind it move up, and d stands in the last place
+  leave-up : (d : A) (n : ℕ) (l : List A) → length l ≡ suc n → leave d 0 l ≡ set (up 0 (suc n) l) n d
+  leave-up d n [] h = absurd (omega arith)
+  leave-up d zero (x ∷ []) h = refl
+  leave-up d zero (x ∷ y ∷ l) h = absurd (omega arith)
+  leave-up d (suc n) (x ∷ []) h = absurd (omega arith)
+  leave-up d (suc n) (x ∷ y ∷ l) h = ap (λ (r : List A). y ∷ r) (leave-up d n (y ∷ l) (omega arith))
 
-  pub store-popped : (d : A) (k : ℕ) (s : Shelf A) → Room 4 k s → changed 4 (popped d) k s ≡ record { cells = movedUp d (4 * k) (s .cells); counts = set (s .counts) k (getD (s .counts) k 0 - 1) }
+  pub store-popped : (d : A) (n k : ℕ) (s : Shelf A) → Room (suc n) k s → changed (suc n) (popped d) k s
+      ≡ record { cells = set (up (suc n * k) (suc n * k + suc n) (s .cells)) (suc n * k + n) d; counts = set (s .counts) k (getD (s .counts) k 0 - 1) }
   unfolding changed popped
-  store-popped d k s room =
-      let a = 4 * k in
+  store-popped d n k s room =
+      let a = suc n * k in
       let l = s .cells in
-      let b = take 4 (drop a l) in
-      let at : (j : ℕ) → j < 4 → getD b j d ≡ getD l (a + j) d = λ j h. getD-take 4 (drop a l) j d h ∙ getD-drop a l j d in
-      let one : suc a ≡ a + 1 = omega arith in
-      let two : suc (suc a) ≡ a + 2 = omega arith in
-      let three : suc (suc (suc a)) ≡ a + 3 = omega arith in
-      let cells : sets l a (leave d 0 b) ≡ movedUp d a l =
-      ap (λ (z : List A). sets l a (leave d 0 z)) (four-read d b (whole 4 k s room))
-      ∙ rw (at 1 (omega arith), at 2 (omega arith), at 3 (omega arith), three, two, one) in
+      let b = take (suc n) (drop a l) in
+      let size : length b ≡ suc n = whole (suc n) k s room in
+      let cells : sets l a (leave d 0 b) ≡ set (up a (a + suc n) l) (a + n) d =
+      ap (sets l a) (leave-up d n b size)
+      ∙ sets-set (up 0 (suc n) b) l a n d (rw (up-length 0 (suc n) b, size) (omega arith))
+      ∙ ap (λ (z : List A). set z (a + n) d) (sets-up (suc n) l a 0 (suc n) (omega arith) (room .cells) ∙ ap (λ (i : ℕ). up i (a + suc n) l) (add-zero a)) in
       λ i. record { cells = cells i; counts = set (s .counts) k (getD (s .counts) k 0 - 1) }

@@ -1,0 +1,4 @@
+pub mod Changes
+pub mod Recv
+pub mod Stores
+pub mod Turns
