@@ -216,11 +216,12 @@ fn core(n: Node, numbers: &[u32], looks: bool) -> Played
         let number = e.number;
         let mut refusal = e.refusal;
         let mut next = e.process;
-        let mut m = 16 * k;
-        let mut top = 16 * k;
+        let first = 16 * k;
+        let mut m = first;
+        let mut top = first;
         if e.receives {
             refusal = NO_FIT;
-            top = 16 * k + up_to(waiting, 16);
+            top = first + up_to(waiting, 16);
             let end = clauses_end(x, op.small);
             'messages: while m < top {
                 let slot = node.slots[m];
@@ -266,7 +267,7 @@ fn core(n: Node, numbers: &[u32], looks: bool) -> Played
         }
         if e.joins {
             let message = e.message;
-            let join = 16 * k + up_to(waiting, 15);
+            let join = first + up_to(waiting, 15);
             node.slots[join] = Slot { message };
             node.waiting[k] = risen(waiting);
         }
@@ -287,7 +288,7 @@ fn core(n: Node, numbers: &[u32], looks: bool) -> Played
         }
         if s.arrives {
             let mut f = 4 * r;
-            let last = 4 * r + 3;
+            let last = f + 3;
             while f < last {
                 let cell = node.cells[f + 1];
                 node.cells[f] = cell;

@@ -38,34 +38,34 @@ use Rattle.engine.proofs.core.Statement.{statement}
 use Rattle.engine.proofs.core.Tie as tie
 
 abbrev Inv-loop2 : tie.InvT-loop2
-Inv-loop2 numbers looks node i t s k r p x waiting w e owner to number refusal₀ next₀ m top end message c₀ refusal next c =
+Inv-loop2 numbers looks node i t s k r p x waiting w e owner to number refusal₀ next₀ first m top end message c₀ refusal next c =
     (placeAt node p + 1 ≤ c) × (refusal ≡ refusal₀) × (next ≡ next₀)
     × (searchFor (clausesOf node p) 0 (mailOf node k) ≡ firstClause (drop (c - (placeAt node p + 1)) (clausesOf node p)) (m - 16 * k) message
     (searchFor (clausesOf node p) (m - 16 * k + 1) (drop (m - 16 * k + 1) (mailOf node k))))
 
 abbrev μ-loop2 : tie.MeasureT-loop2
-μ-loop2 numbers looks node i t s k r p x waiting w e owner to number refusal₀ next₀ m top end message c₀ refusal next c = end - c
+μ-loop2 numbers looks node i t s k r p x waiting w e owner to number refusal₀ next₀ first m top end message c₀ refusal next c = end - c
 
 abbrev Inv-messages : tie.InvT-messages
-Inv-messages numbers looks node i t s k r p x waiting w e owner to number refusal₀ next₀ m₀ top end refusal next m =
+Inv-messages numbers looks node i t s k r p x waiting w e owner to number refusal₀ next₀ first m₀ top end refusal next m =
     (16 * k ≤ m) × (m ≤ top) × (refusal ≡ noFit)
     × (searchFor (clausesOf node p) 0 (mailOf node k) ≡ searchFor (clausesOf node p) (m - 16 * k) (drop (m - 16 * k) (mailOf node k)))
 
 abbrev μ-messages : tie.MeasureT-messages
-μ-messages numbers looks node i t s k r p x waiting w e owner to number refusal₀ next₀ m₀ top end refusal next m = top - m
+μ-messages numbers looks node i t s k r p x waiting w e owner to number refusal₀ next₀ first m₀ top end refusal next m = top - m
 
 abbrev Inv-loop3 : tie.InvT-loop3
-Inv-loop3 numbers looks node₀ i t s k r x waiting w e owner to number refusal m₀ top node m =
+Inv-loop3 numbers looks node₀ i t s k r x waiting w e owner to number refusal first m₀ top node m =
     (m ≤ 256) × (node ≡ withSlots node₀ (node .slots)) × Moved (node₀ .slots) m₀ top (node .slots) m
 
 abbrev μ-loop3 : tie.MeasureT-loop3
-μ-loop3 numbers looks node₀ i t s k r x waiting w e owner to number refusal m₀ top node m = top - m
+μ-loop3 numbers looks node₀ i t s k r x waiting w e owner to number refusal first m₀ top node m = top - m
 
 abbrev Inv-loop4 : tie.InvT-loop4
-Inv-loop4 numbers looks node₀ i t k r x waiting w refusal m top f₀ last node f = (node ≡ withCells node₀ (node .cells)) × Moved (node₀ .cells) f₀ (last + 1) (node .cells) f
+Inv-loop4 numbers looks node₀ i t k r x waiting w refusal first m top f₀ last node f = (node ≡ withCells node₀ (node .cells)) × Moved (node₀ .cells) f₀ (last + 1) (node .cells) f
 
 abbrev μ-loop4 : tie.MeasureT-loop4
-μ-loop4 numbers looks node₀ i t k r x waiting w refusal m top f₀ last node f = last - f
+μ-loop4 numbers looks node₀ i t k r x waiting w refusal first m top f₀ last node f = last - f
 
 abbrev Inv-loop : tie.InvT-loop
 Inv-loop numbers looks node₀ i₀ node i = (i ≤ length numbers) × Sound node × Going looks node₀ numbers i node
@@ -494,14 +494,8 @@ element-copy-out-decide-2 c = (c .before) .behaviour-index .ensures .1
 decide-requires : tie.Need-decide-requires Inv-loop2 μ-loop2 Inv-messages μ-messages Inv-loop3 μ-loop3 Inv-loop4 μ-loop4 Inv-loop μ-loop
 decide-requires c κs = tt
 
-mul-m : tie.Need-mul-m Inv-loop2 μ-loop2 Inv-messages μ-messages Inv-loop3 μ-loop3 Inv-loop4 μ-loop4 Inv-loop μ-loop
-mul-m c = small (let h = at-bound c in omega (arith, h))
-
-mul-top : tie.Need-mul-top Inv-loop2 μ-loop2 Inv-messages μ-messages Inv-loop3 μ-loop3 Inv-loop4 μ-loop4 Inv-loop μ-loop
-mul-top c = small (let h = at-bound c in omega (arith, h))
-
-mul-top-2 : tie.Need-mul-top-2 Inv-loop2 μ-loop2 Inv-messages μ-messages Inv-loop3 μ-loop3 Inv-loop4 μ-loop4 Inv-loop μ-loop
-mul-top-2 c = small (let h = at-bound (c .before) in omega (arith, h))
+mul-first : tie.Need-mul-first Inv-loop2 μ-loop2 Inv-messages μ-messages Inv-loop3 μ-loop3 Inv-loop4 μ-loop4 Inv-loop μ-loop
+mul-first c = small (let h = at-bound c in omega (arith, h))
 
 up-to-requires : tie.Need-up-to-requires Inv-loop2 μ-loop2 Inv-messages μ-messages Inv-loop3 μ-loop3 Inv-loop4 μ-loop4 Inv-loop μ-loop
 up-to-requires c κs = tt
@@ -709,9 +703,6 @@ loop3-again c =
     let slots = set (q .slots) ((c .before .before) .loop3 .m) (getD (q .slots) ((c .before .before) .loop3 .m + 1) noMessage) in
     (omega (arith, h, b, e), ap (λ (k : Node). withSlots k slots) (v .1), moved-more noMessage (v .2) h room)
 
-mul-join : tie.Need-mul-join Inv-loop2 μ-loop2 Inv-messages μ-messages Inv-loop3 μ-loop3 Inv-loop4 μ-loop4 Inv-loop μ-loop
-mul-join c = small (let h = at-bound (c .before .before .before .before .before .before .before) in omega (arith, h))
-
 up-to-requires-2 : tie.Need-up-to-requires-2 Inv-loop2 μ-loop2 Inv-messages μ-messages Inv-loop3 μ-loop3 Inv-loop4 μ-loop4 Inv-loop μ-loop
 up-to-requires-2 c κs = tt
 
@@ -739,8 +730,8 @@ element-copy-out-sent c = c .row-index2 .ensures .1
 cell-index-requires : tie.Need-cell-index-requires Inv-loop2 μ-loop2 Inv-messages μ-messages Inv-loop3 μ-loop3 Inv-loop4 μ-loop4 Inv-loop μ-loop
 cell-index-requires c κs = (c .before) .row-index2 .ensures .1
 
-mul-t115 : tie.Need-mul-t115 Inv-loop2 μ-loop2 Inv-messages μ-messages Inv-loop3 μ-loop3 Inv-loop4 μ-loop4 Inv-loop μ-loop
-mul-t115 c = small (let h = c .cell-index .ensures .1 in omega (arith, h))
+mul-t114 : tie.Need-mul-t114 Inv-loop2 μ-loop2 Inv-messages μ-messages Inv-loop3 μ-loop3 Inv-loop4 μ-loop4 Inv-loop μ-loop
+mul-t114 c = small (let h = c .cell-index .ensures .1 in omega (arith, h))
 
 element-set-from-node-2 : tie.Need-element-set-from-node-2 Inv-loop2 μ-loop2 Inv-messages μ-messages Inv-loop3 μ-loop3 Inv-loop4 μ-loop4 Inv-loop μ-loop
 element-set-from-node-2 c = c .cell-index .ensures .1
@@ -757,8 +748,8 @@ process-index-requires-2 c κs = tt
 fresh-requires : tie.Need-fresh-requires Inv-loop2 μ-loop2 Inv-messages μ-messages Inv-loop3 μ-loop3 Inv-loop4 μ-loop4 Inv-loop μ-loop
 fresh-requires c κs = tt
 
-mul-t122 : tie.Need-mul-t122 Inv-loop2 μ-loop2 Inv-messages μ-messages Inv-loop3 μ-loop3 Inv-loop4 μ-loop4 Inv-loop μ-loop
-mul-t122 c = small (let h = (c .before .before) .process-index2 .ensures .1 in omega (arith, h))
+mul-t121 : tie.Need-mul-t121 Inv-loop2 μ-loop2 Inv-messages μ-messages Inv-loop3 μ-loop3 Inv-loop4 μ-loop4 Inv-loop μ-loop
+mul-t121 c = small (let h = (c .before .before) .process-index2 .ensures .1 in omega (arith, h))
 
 element-set-from-node-3 : tie.Need-element-set-from-node-3 Inv-loop2 μ-loop2 Inv-messages μ-messages Inv-loop3 μ-loop3 Inv-loop4 μ-loop4 Inv-loop μ-loop
 element-set-from-node-3 c = (c .before .before) .process-index2 .ensures .1
@@ -780,9 +771,6 @@ loop-again-2 c =
 
 mul-f : tie.Need-mul-f Inv-loop2 μ-loop2 Inv-messages μ-messages Inv-loop3 μ-loop3 Inv-loop4 μ-loop4 Inv-loop μ-loop
 mul-f c = small (let h = arrival-bound (c .before .before .before .before .before .before .before .before .before .before) in omega (arith, h))
-
-mul-last : tie.Need-mul-last Inv-loop2 μ-loop2 Inv-messages μ-messages Inv-loop3 μ-loop3 Inv-loop4 μ-loop4 Inv-loop μ-loop
-mul-last c = small (let h = arrival-bound (c .before .before .before .before .before .before .before .before .before .before) in omega (arith, h))
 
 add-last : tie.Need-add-last Inv-loop2 μ-loop2 Inv-messages μ-messages Inv-loop3 μ-loop3 Inv-loop4 μ-loop4 Inv-loop μ-loop
 add-last c = small (let h = arrival-bound (c .before .before .before .before .before .before .before .before .before .before) in omega (arith, h))
@@ -834,8 +822,8 @@ loop4-again c =
 blank-requires : tie.Need-blank-requires Inv-loop2 μ-loop2 Inv-messages μ-messages Inv-loop3 μ-loop3 Inv-loop4 μ-loop4 Inv-loop μ-loop
 blank-requires c κs = tt
 
-mul-t127 : tie.Need-mul-t127 Inv-loop2 μ-loop2 Inv-messages μ-messages Inv-loop3 μ-loop3 Inv-loop4 μ-loop4 Inv-loop μ-loop
-mul-t127 c = small (let h = arrival-bound (c .before .before .before .before .before .before .before .before .before .before .before .before .before) in omega (arith, h))
+mul-t135 : tie.Need-mul-t135 Inv-loop2 μ-loop2 Inv-messages μ-messages Inv-loop3 μ-loop3 Inv-loop4 μ-loop4 Inv-loop μ-loop
+mul-t135 c = small (let h = arrival-bound (c .before .before .before .before .before .before .before .before .before .before .before .before .before) in omega (arith, h))
 
 element-set-from-node-4 : tie.Need-element-set-from-node-4 Inv-loop2 μ-loop2 Inv-messages μ-messages Inv-loop3 μ-loop3 Inv-loop4 μ-loop4 Inv-loop μ-loop
 element-set-from-node-4 c = let h = arrival-bound (c .before .before .before .before .before .before .before .before .before .before .before .before .before) in omega (arith, h)
@@ -932,9 +920,7 @@ core-spec =
     element-copy-out-decide
     element-copy-out-decide-2
     decide-requires
-    mul-m
-    mul-top
-    mul-top-2
+    mul-first
     up-to-requires
     add-top
     clauses-end-requires
@@ -980,7 +966,6 @@ core-spec =
     add-m-2
     loop3-less
     loop3-again
-    mul-join
     up-to-requires-2
     add-join
     mul-t103
@@ -990,19 +975,18 @@ core-spec =
     row-index-requires-2
     element-copy-out-sent
     cell-index-requires
-    mul-t115
+    mul-t114
     element-set-from-node-2
     risen-requires-2
     element-write-node-3
     process-index-requires-2
     fresh-requires
-    mul-t122
+    mul-t121
     element-set-from-node-3
     element-write-node-4
     loop-less-2
     loop-again-2
     mul-f
-    mul-last
     add-last
     loop4-holds
     add-cell
@@ -1014,7 +998,7 @@ core-spec =
     loop4-less
     loop4-again
     blank-requires
-    mul-t127
+    mul-t135
     element-set-from-node-4
     element-copy-out-fallen
     fallen-requires-2
