@@ -813,7 +813,8 @@ loop4-again c =
     let q = (c .before .before) .loop4 .node in
     let h = (c .before) .loop4-test .taken in
     let b = arrival-bound t in
-    let clear = commits (c .before .before .before .before .before .before .before .before .before .before) ((c .before .before .before .before .before .before .before .before .before) .if5 .left) .cleared in
+    let clear = commits (c .before .before .before .before .before .before .before .before .before .before)
+    ((c .before .before .before .before .before .before .before .before .before) .if5 .left) .cleared in
     let size : length ((c .before .before .before .before .before) .if10 .node .cells) ≡ 1024 = ap (λ (x : Node). length (x .cells)) (stored-is (c .before .before .before .before .before))
     ∙ stored-cells (N t) (N-sound t) (T t) (T-means t) (E t) (E-says t) clear in
     let room : 4 * T t .row + 3 + 1 ≤ length ((c .before .before .before .before .before) .if10 .node .cells) = subst (λ (k : ℕ). 4 * T t .row + 3 + 1 ≤ k) (sym size) (omega (arith, b)) in
