@@ -52,8 +52,8 @@ pub digits-wide : (k n : ℕ) → 10 ^ k ≤ n → n < 10 ^ suc k → length (di
 digits-wide zero n l h = rw (digits-one n h) refl
 digits-wide (suc k) n l h =
     let many : 10 ≤ n = omega (arith, pow-suc 10 k, one-le-pow k 10 (omega arith)) in
-    rw (digits-more n many)
-    (length-append (digits (n / 10)) ((code "0" + n % 10) ∷ []) ∙ ap (λ (j : ℕ). j + 1) (digits-wide k (n / 10) (omega (arith, pow-suc 10 k)) (omega (arith, pow-suc 10 (suc k)))) ∙ add-one (suc k))
+    let front = digits-wide k (n / 10) (omega (arith, pow-suc 10 k)) (omega (arith, pow-suc 10 (suc k))) in
+    rw (digits-more n many) (length-append (digits (n / 10)) ((code "0" + n % 10) ∷ []) ∙ ap (λ (j : ℕ). j + 1) front ∙ add-one (suc k))
 
 pub digits-some : (n : ℕ) → 1 ≤ length (digits n)
 digits-some n = by-size (ltb n 10) refl
