@@ -70,17 +70,21 @@ mailBlocks n = record {
   blank = noMessage;
 }
 
-abbrev pub rowBlocks : Node → Blocks Cell Signal
-rowBlocks n = record {
+-- the rows, by the counts and the cells that the code has taken out of the node
+abbrev pub rowsIn : List ℕ → List Cell → Blocks Cell Signal
+rowsIn counts cells = record {
   number = 256;
   width = 4;
-  cells = n .cells;
-  count = λ k. getD (n .counts) k 0;
+  cells = cells;
+  count = λ k. getD counts k 0;
   own = λ k. true;
   test = λ k. signalSound (k / 16 + 1) (k % 16 + 1);
   read = λ c. c .signal;
   blank = noSignal;
 }
+
+abbrev pub rowBlocks : Node → Blocks Cell Signal
+rowBlocks n = rowsIn (n .counts) (n .cells)
 
 -- ---- processes
 

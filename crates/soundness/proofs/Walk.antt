@@ -5,14 +5,16 @@
 --   blockSound b k        block k passes: a test of its own, no more elements than it has room for, and the test of each
 --   Due b rest g k        what the outer loop keeps: the tests of the blocks from k on, and then `rest`, give g
 --   Within b rest g k m   what the inner loop keeps: those of the elements of block k from m on, of the blocks behind it, and then `rest`, give g
+--   skips                 blocks without elements, passed over;  due-then within-then  what is left of what was left
 use mathlib.Core.Bool.{Bool, true, false, _&&_, and-assoc, and-false}
 use mathlib.Core.List.{List, [], _∷_, map}
-use mathlib.Core.Path.{_≡_, sym, _∙_, ap}
-use Prim.Native.Nat.{ℕ, _+_, _-_, _*_, suc, _≤_, _<_}
+use mathlib.Core.Path.{_≡_, refl, sym, _∙_, ap}
+use Prim.Native.Nat.{ℕ, _+_, _-_, _*_, zero, suc, _≤_, _<_}
+use native.Mathlib.Nat.{add-zero}
 use native.Mathlib.Numerals.{add-one}
 use native.Mathlib.Omega.{arith}
-use borrow.Author.Tests.{le-leb, lt-leb}
-use lib.Dec.{leb}
+use borrow.Author.Tests.{le-leb, lt-leb, ltb-true, ltb-false}
+use lib.Dec.{leb, ltb}
 use lib.ListN.{length, getD, take, drop, drop-of-length-le}
 use lib.Seq.{drop-cons, getD-drop, getD-take}
 use Rattle.node.specs.Lists.{allOf, firsts, rising}
@@ -95,3 +97,27 @@ module _ {C A : Type 0} (b : Blocks C A) where
 
         pub more : b .test k (b .read (getD (b .cells) (b .width * k + m) (b .blank))) ≡ true → Within rest g k (m + 1)
         more e = record { gives = v .gives ∙ rw (drop-cons (elements k) m (b .read (b .blank)) inside, element k m h f, e, add-one m) }
+
+    -- what is left behind block k, on the way from where g was left
+    pub due-then : {k r : ℕ} → Due rest g k → Due rest (behind k && rest) r → Due rest g r
+    due-then v w = record { gives = v .gives ∙ w .gives }
+
+    pub within-then : {k m : ℕ} → Due rest g k → Within rest (behind k && rest) k m → Within rest g k m
+    within-then v w = record { gives = v .gives ∙ w .gives }
+
+    -- a block without elements, and several of them
+    skip : (k : ℕ) → b .own k ≡ true → b .count k ≡ 0 → Due rest g k → Due rest g (k + 1)
+    skip k e f v = by-size (ltb k (b .number)) refl (λ h. next k 0 (omega arith) (begins k h v e (omega arith)) (omega arith))
+      where
+        by-size : (t : Bool) → ltb k (b .number) ≡ t → (k < b .number → Due rest g (k + 1)) → Due rest g (k + 1)
+        by-size true is go = go (ltb-true k (b .number) is)
+        by-size false is go =
+            let h = ltb-false k (b .number) is in
+            record { gives = v .gives ∙ rw (rising-none k (b .number) h, rising-none (k + 1) (b .number) (omega arith)) }
+
+    pub skips : (k r : ℕ) → k ≤ r → ((j : ℕ) → b .own j ≡ true) → ((j : ℕ) → k ≤ j → j < r → b .count j ≡ 0) → Due rest g k → Due rest g r
+    skips k r h e f v = let is : k + (r - k) ≡ r = omega arith in rw is at (go (r - k) k (λ j l m. f j l (omega arith)) v)
+      where
+        go : (n k : ℕ) → ((j : ℕ) → k ≤ j → j < k + n → b .count j ≡ 0) → Due rest g k → Due rest g (k + n)
+        go zero k f v = rw (add-zero k) v
+        go (suc n) k f v = let is : k + 1 + n ≡ k + suc n = omega arith in rw is at (go n (k + 1) (λ j l m. f j (omega arith) (omega arith)) (skip k (e k) (f k (omega arith) (omega arith)) v))

@@ -1,10 +1,11 @@
 -- Laws of the digits of a number and of the text of an integer. Assumes nothing.
 use mathlib.Core.Bool.{Bool, true, false}
 use mathlib.Core.List.{List, [], _∷_, _++_}
-use mathlib.Core.Path.{_≡_, refl, ap}
+use mathlib.Core.Path.{_≡_, refl, ap, _∙_}
 use Prim.Native.Nat.{ℕ, zero, suc, _+_, _/_, _%_, _^_, _≤_, _<_}
 use Prim.Native.Char.{code}
-use native.Mathlib.Nat.{pow-suc}
+use native.Mathlib.Nat.{pow-suc, one-le-pow}
+use native.Mathlib.Numerals.{add-one}
 use native.Mathlib.Omega.{arith}
 use borrow.Author.Tests.{lt-ltb, le-ltb, ltb-true, ltb-false}
 use lib.Dec.{ltb}
@@ -45,3 +46,18 @@ digits-length (suc k) n h = by-size (ltb n 10) refl (λ m. digits-length k (n / 
     by-size : (t : Bool) → ltb n 10 ≡ t → (10 ≤ n → length (digits (n / 10)) ≤ suc k) → length (digits n) ≤ suc (suc k)
     by-size true e ih = rw (digits-one n (ltb-true n 10 e)) (omega arith)
     by-size false e ih = let many = ltb-false n 10 e in rw (digits-more n many) (omega (arith, ih many, length-append (digits (n / 10)) ((code "0" + n % 10) ∷ [])))
+
+-- a number from 10 ^ k on, below ten times as much, has k + 1 digits
+pub digits-wide : (k n : ℕ) → 10 ^ k ≤ n → n < 10 ^ suc k → length (digits n) ≡ suc k
+digits-wide zero n l h = rw (digits-one n h) refl
+digits-wide (suc k) n l h =
+    let many : 10 ≤ n = omega (arith, pow-suc 10 k, one-le-pow k 10 (omega arith)) in
+    let front = digits-wide k (n / 10) (omega (arith, pow-suc 10 k)) (omega (arith, pow-suc 10 (suc k))) in
+    rw (digits-more n many) (length-append (digits (n / 10)) ((code "0" + n % 10) ∷ []) ∙ ap (λ (j : ℕ). j + 1) front ∙ add-one (suc k))
+
+pub digits-some : (n : ℕ) → 1 ≤ length (digits n)
+digits-some n = by-size (ltb n 10) refl
+  where
+    by-size : (t : Bool) → ltb n 10 ≡ t → 1 ≤ length (digits n)
+    by-size true e = rw (digits-one n (ltb-true n 10 e)) (omega arith)
+    by-size false e = rw (digits-more n (ltb-false n 10 e)) (omega (arith, length-append (digits (n / 10)) ((code "0" + n % 10) ∷ [])))

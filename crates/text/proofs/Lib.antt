@@ -4,5 +4,6 @@ pub mod Numbers
 pub mod Values
 pub mod Writing
 pub mod Digits
+pub mod Stores
 pub mod Signs
 pub mod Examples

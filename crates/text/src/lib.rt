@@ -4,7 +4,8 @@ use node::ProcessNumber;
 use node::Value;
 ghost use mathlib.Core.Path.{_≡_};
 ghost use mathlib.Core.List.{[], _∷_};
-ghost use Prim.Native.Nat.{_+_, _*_, _<_, min};
+ghost use Prim.Native.Nat.{_+_, _*_, _<_, _≤_, min};
+ghost use lib.Dec.{leb};
 ghost use lib.IntN.{natAbs};
 ghost use lib.ListN.{length, getD, drop};
 ghost use Rattle.node.specs.Lists.{allOf};
@@ -243,27 +244,29 @@ pub fn put_byte(out: &mut [u8], at: usize, b: u8) -> usize
     TOP
 }
 
+// A text that has room is stored without a look at the room for each byte.
 pub fn put_bytes(out: &mut [u8], at: usize, s: &[u8]) -> usize
     ensures { λ r. ⌜ Wrote (now (out .entry)) at (now (s .entry)) (now (out .exit)) r ⌝ }
 {
-    let mut e = at;
-    let mut k = 0;
-    while k < s.len() {
-        e = put_byte(out, e, s[k]);
-        k += 1;
+    if has_room(out.len(), at, s.len()) {
+        return store_bytes(out, at, s);
     }
-    e
+    clip_bytes(out, at, s)
 }
 
-// A number in base ten.
+// A number in base ten. Its digits are counted first, so that they are stored where they stay, from the last on; a number that has no room,
+// or is wider than any of a listing, is written digit by digit.
 pub fn put_number(out: &mut [u8], at: usize, n: u64) -> usize
     ensures { λ r. ⌜ Wrote (now (out .entry)) at (digits n) (now (out .exit)) r ⌝ }
 {
-    if n < 10 {
-        return put_byte(out, at, b'0' + (n as u8));
+    if n < 4294967296 {
+        let m = n as u32;
+        let w = width(m);
+        if has_room(out.len(), at, w) {
+            return store_digits(out, at, w, m);
+        }
     }
-    let e = put_number(out, at, n / 10);
-    put_byte(out, e, b'0' + ((n % 10) as u8))
+    clip_number(out, at, n)
 }
 
 // An integer in base ten, with a minus where it is below 0.
@@ -295,6 +298,104 @@ pub fn put_number_line(out: &mut [u8], at: usize, key: &[u8], n: u64) -> usize
     let e = put_bytes(out, at, key);
     let e = put_number(out, e, n);
     put_byte(out, e, b'\n')
+}
+
+// Whether n bytes from place `at` on are within a buffer of `len` bytes.
+fn has_room(len: usize, at: usize, n: usize) -> bool
+    ensures { λ r. ⌜ r ≡ leb (at + n) len ⌝ }
+{
+    if len < at {
+        return false;
+    }
+    n <= len - at
+}
+
+// A text that has room.
+fn store_bytes(out: &mut [u8], at: usize, s: &[u8]) -> usize
+    requires { ⌜ at + length (now s) ≤ length (now out) ⌝ }
+    ensures { λ r. ⌜ Wrote (now (out .entry)) at (now (s .entry)) (now (out .exit)) r ⌝ }
+{
+    let mut k = 0;
+    while k < s.len() {
+        out[at + k] = s[k];
+        k += 1;
+    }
+    at + k
+}
+
+// A text as far as it has room.
+fn clip_bytes(out: &mut [u8], at: usize, s: &[u8]) -> usize
+    ensures { λ r. ⌜ Wrote (now (out .entry)) at (now (s .entry)) (now (out .exit)) r ⌝ }
+{
+    let mut e = at;
+    let mut k = 0;
+    while k < s.len() {
+        e = put_byte(out, e, s[k]);
+        k += 1;
+    }
+    e
+}
+
+// How many digits a number has.
+fn width(n: u32) -> usize
+    ensures { λ r. ⌜ r ≡ length (digits n) ⌝ }
+{
+    if n < 10 {
+        return 1;
+    }
+    if n < 100 {
+        return 2;
+    }
+    if n < 1000 {
+        return 3;
+    }
+    if n < 10000 {
+        return 4;
+    }
+    if n < 100000 {
+        return 5;
+    }
+    if n < 1000000 {
+        return 6;
+    }
+    if n < 10000000 {
+        return 7;
+    }
+    if n < 100000000 {
+        return 8;
+    }
+    if n < 1000000000 {
+        return 9;
+    }
+    10
+}
+
+// A number of w digits that has room, the last digit first.
+fn store_digits(out: &mut [u8], at: usize, w: usize, n: u32) -> usize
+    requires width { ⌜ w ≡ length (digits n) ⌝ }
+    requires room { ⌜ at + w ≤ length (now out) ⌝ }
+    ensures { λ r. ⌜ Wrote (now (out .entry)) at (digits n) (now (out .exit)) r ⌝ }
+{
+    let mut k = w;
+    let mut m = n;
+    while 10 <= m {
+        k -= 1;
+        out[at + k] = b'0' + ((m % 10) as u8);
+        m = m / 10;
+    }
+    out[at] = b'0' + (m as u8);
+    at + w
+}
+
+// A number as far as it has room.
+fn clip_number(out: &mut [u8], at: usize, n: u64) -> usize
+    ensures { λ r. ⌜ Wrote (now (out .entry)) at (digits n) (now (out .exit)) r ⌝ }
+{
+    if n < 10 {
+        return put_byte(out, at, b'0' + (n as u8));
+    }
+    let e = clip_number(out, at, n / 10);
+    put_byte(out, e, b'0' + ((n % 10) as u8))
 }
 
 // The value of a digit; 0 for a byte below the digits.
