@@ -40,6 +40,10 @@ ops-more n xs {i} x e =
     ap (λ (k : ℕ). set (sets (n .ops) (n .count * 32) xs) (n .count * 32 + k) x) (sym e) ∙ sets-more (n .ops) (n .count * 32) xs x in
     cc
 
+-- ops put where none are counted yet
+pub ops-anew : (n : Node) (xs : List Op) → withOps (withOps n []) xs ≡ withOps n xs
+ops-anew n xs = ap (λ (l : List ℕ). remade n (n .count) l (sets (n .ops) (n .count * 32) xs) (n .processes)) (set-set (n .lens) (n .count) 0 (length xs))
+
 -- one op more, behind those that are there
 pub ops-next : (n : Node) (xs : List Op) {i : ℕ} {b : Node} {y x : Op} → b ≡ withOps n xs → y ≡ x → length xs ≡ i
     → withOp (n .count) b i y ≡ withOps n (xs ++ (x ∷ []))

@@ -327,7 +327,7 @@ fn read_ops(text: &[u8], m: Mark, codes: Codes, count: u8, len: u8) -> CodesAt
         let op = x.op;
         mark = x.mark;
         if mark.refusal != 0 {
-            return CodesAt { mark, codes };
+            return CodesAt { mark, codes: n };
         }
         let at = b * 32 + (i as usize);
         i += 1;
