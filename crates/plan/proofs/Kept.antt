@@ -2,12 +2,13 @@
 --   codeKept c code  startKept c s   a code and a start of a plan with c behaviours keep their limits
 --   PlanKept p                       so does the whole plan p
 --   plan-kept                        a plan that is read does
+--   start-least                      a start that is read has a behaviour
 use mathlib.Core.Bool.{Bool, true, false, So, _&&_}
 use mathlib.Core.List.{List, [], _∷_, _++_}
-use mathlib.Core.Path.{_≡_, refl, sym, ap, subst}
+use mathlib.Core.Path.{_≡_, refl, sym, ap, subst, _∙_}
 use Prim.Native.Nat.{ℕ, zero, suc, _+_, _≤_}
 use native.Mathlib.Omega.{arith}
-use borrow.Author.Tests.{le-leb, eqb-true}
+use borrow.Author.Tests.{le-leb, leb-true, eqb-true}
 use lib.Dec.{eqb, leb}
 use lib.ListN.{length, length-append}
 use Rattle.node.specs.declared.Op.{Op}
@@ -16,15 +17,18 @@ use Rattle.node.specs.Lists.{allOf}
 use Rattle.rules.specs.Answers.{Answer, refused, done, need}
 use Rattle.rules.specs.Behaviours.{inRange, instruction}
 use Rattle.node.specs.Values.{isNumber}
-use Rattle.rules.proofs.All.{both, allOf-join}
+use Rattle.rules.proofs.All.{both, parts, allOf-join}
 use Rattle.behaviours.proofs.Operands.{in-range-by}
 use Rattle.text.specs.Parts.{Lines}
 use Rattle.plan_line.specs.declared.Start.{Start}
 use Rattle.plan_line.specs.Lines.{behavioursKey, codeKey, startsKey, answered, headerLine, countTold, countLine, opTold, opLine, startTold, startLine}
 use Rattle.plan_line.proofs.InRange.{op-kept}
 use Rattle.plan_line.proofs.Ranges.{count-kept, start-kept}
+use Rattle.plan.specs.declared.Mark.{Mark}
+use Rattle.plan.specs.Marks.{leftAt, Reached}
 use Rattle.plan.specs.Plans.{Plan, beforeFirst, lastFrom, more, startMore, codeLines, startLines, planLines}
 use Rattle.plan.specs.Reading.{Left, Read, bad, good, judged, firstOf, onLine, thenOn, times, nothingIn, endOf}
+use Rattle.plan.proofs.Loops.{markRead-good}
 use Rattle.plan.proofs.Whole.{countIn, codesIn, startsIn, endsIn}
 
 abbrev pub codeKept : ℕ → List Op → Bool
@@ -109,6 +113,15 @@ start-read c last l {s} e =
     subst (λ (y : Start). So (startKept c y)) (a .1)
     (both (both (le-leb 1 (x .process .0) (kept .first (a .0))) (le-leb (x .process .0) 16 (kept .process)))
     (both (le-leb 1 (x .behaviour .0) (kept .least (a .0))) (le-leb (x .behaviour .0) c (kept .most (a .0)))))
+
+-- a start that is read has a behaviour
+pub start-least : (s : List ℕ) (m : Mark) (c : ℕ) (last : ProcessNumber) {x : Mark} {y : Start} → Reached s x y (onLine (startLine c last) (leftAt s m)) → x .refusal ≡ 0
+    → 1 ≤ y .behaviour .0
+unfolding isNumber
+start-least s m c last {x} {y} r on =
+    let kept = start-read c last (leftAt s m) (sym (r .is) ∙ markRead-good s x y on) in
+    let sizes = parts (isNumber (y .process .0)) (leb 1 (y .behaviour .0) && leb (y .behaviour .0) c) kept in
+    leb-true _ _ (parts (leb 1 (y .behaviour .0)) (leb (y .behaviour .0) c) (sizes .1) .0)
 
 code-read : (c : ℕ) (l : Left) {code : List Op} {k : Left} → codeLines c l ≡ good code k → So (codeKept c code)
 unfolding codeLines

@@ -7,13 +7,14 @@
 --   planLines               the lines of a plan
 --   misplaced node          14: the line of the first op that is not well placed; 0 where there is none
 --   remade n ..             n with behaviours and processes anew
---   codedNode codes         the node with behaviours and without processes
+--   processOf b             a process that starts with behaviour b; unborn where b is 0
+--   codedNode codes         the node with behaviours and processes, without mail and signals
 --   withCode withStart      a node with one more behaviour, and with one more process started
 --   nodeOf plan             the started node
 --   loadOf text             what a load tells
 use mathlib.Core.Bool.{cond}
-use mathlib.Core.List.{List, [], _∷_, _++_}
-use Prim.Native.Nat.{ℕ, _+_, _-_, _*_}
+use mathlib.Core.List.{List, [], _∷_, _++_, map}
+use Prim.Native.Nat.{ℕ, zero, suc, _+_, _-_, _*_}
 use lib.Dec.{eqb, ltb}
 use lib.ListN.{length, set, replicate}
 use lib.Seq.{sets}
@@ -115,8 +116,13 @@ remade n count lens ops processes = record {
   cells = n .cells;
 }
 
+-- a process that starts with behaviour b; unborn where b is 0
+abbrev pub processOf : ℕ → Process
+processOf zero = unborn
+processOf (suc b) = fresh (record { 0 = suc b }) intZero
+
 abbrev pub codedNode : Codes → Node
-codedNode c = remade emptyNode (c .count) (c .lens) (c .ops) (emptyNode .processes)
+codedNode c = remade emptyNode (c .count) (c .lens) (c .ops) (map processOf (c .starts))
 
 -- the ops behind those of the other behaviours: their N, and the ops themselves on 32 places of their own
 abbrev pub withOps : Node → List Op → Node

@@ -14,7 +14,7 @@ ghost use lib.ListN.{length};
 ghost use Rattle.text.specs.Parts.{linesOf};
 ghost use Rattle.plan_line.specs.Lines.{headerLine, countLine, opLine, startLine};
 ghost use Rattle.plan.specs.Plans.{more, nodeOf, planLines, refusedLoad, loadOf, codeLines, startMore, startLines};
-ghost use Rattle.plan.specs.Plans.{codedNode, emptyNode, withOps, withCode, withStart, withEach};
+ghost use Rattle.plan.specs.Plans.{codedNode, emptyNode, processOf, withOps, withCode, withStart, withEach};
 ghost use Rattle.plan.specs.Marks.{leftAt, mapped, endMark, stopped, behind, Within, Reached};
 ghost use Rattle.plan.specs.Reading.{onLine, times};
 
@@ -54,22 +54,20 @@ struct StartAt {
     start: Start,
 }
 
-// The behaviours that are read: how many, the number of ops of each, and the ops, 32 places to a behaviour. They are handed on with each
-// behaviour, for which a node is too large.
+// What a plan says of its node: the ops, 32 places to a behaviour, the number of ops of each behaviour, for each process the behaviour that
+// it starts with, 0 where it is not started, and how many behaviours there are. It is handed on from line to line, for which a node is too
+// large: the node is made of it once, at the end. The ops stand first, so that they are copied without a few bytes more: copies between
+// places that are a page and a few bytes apart are slow.
 struct Codes {
-    count: u8,
-    lens: [u8; 8],
     ops: [Op; 256],
+    lens: [u8; 8],
+    starts: [u8; 16],
+    count: u8,
 }
 
 struct CodesAt {
     mark: Mark,
     codes: Codes,
-}
-
-struct Placed {
-    mark: Mark,
-    node: Node,
 }
 
 // The node of a plan text, or a refusal with its line.
@@ -84,17 +82,17 @@ pub fn load(text: &[u8]) -> Loaded
     if end.refusal != 0 {
         return refused_load(end.refusal, end.line);
     }
-    let node = x.node;
-    let lens = node.lens;
-    let ops = node.ops;
-    let line = placement::misplaced(node.count, lens, ops);
+    let codes = x.codes;
+    let lens = codes.lens;
+    let ops = codes.ops;
+    let line = placement::misplaced(codes.count, lens, ops);
     if line != 0 {
         return refused_load(ILL_PLACED, line);
     }
     Loaded {
         number: 0,
         line: 0,
-        node,
+        node: coded_node(codes),
     }
 }
 
@@ -109,10 +107,11 @@ fn refused_load(number: u8, line: usize) -> Loaded
     }
 }
 
-// The lines of a plan, and the node that they make.
-fn read_plan(text: &[u8]) -> Placed
+// The lines of a plan, and what they say of its node.
+fn read_plan(text: &[u8]) -> CodesAt
     requires { ⌜ length (now text) ≤ 16384 ⌝ }
-    ensures { λ r. ⌜ Reached (now (text .entry)) (r .mark) (r .node) (mapped nodeOf (planLines (record { text = linesOf (now (text .entry)); first = 1 }))) ⌝ }
+    ensures { λ r. ⌜ Reached (now (text .entry)) (r .mark) (codedNode (r .codes))
+        (mapped nodeOf (planLines (record { text = linesOf (now (text .entry)); first = 1 }))) ⌝ }
 {
     let first = Mark {
         refusal: 0,
@@ -121,30 +120,33 @@ fn read_plan(text: &[u8]) -> Placed
     };
     let header = header_at(text, first);
     if header.refusal != 0 {
-        return Placed {
+        return CodesAt {
             mark: header,
-            node: Node::blank(),
+            codes: no_codes(),
         };
     }
     let x = count_at(text, header, b"behaviours=", 1, 8);
     let mark = x.mark;
     if mark.refusal != 0 {
-        return Placed {
+        return CodesAt {
             mark,
-            node: Node::blank(),
+            codes: no_codes(),
         };
     }
-    let codes = read_codes(text, mark, x.number);
-    let behind = codes.mark;
-    let node = coded_node(codes.codes);
+    let coded = read_codes(text, mark, x.number);
+    let behind = coded.mark;
+    let codes = coded.codes;
     if behind.refusal != 0 {
-        return Placed { mark: behind, node };
+        return CodesAt {
+            mark: behind,
+            codes,
+        };
     }
-    let starts = read_starts(text, behind, node, x.number);
-    let started = starts.node;
-    Placed {
+    let starts = read_starts(text, behind, codes, x.number);
+    let started = starts.codes;
+    CodesAt {
         mark: read_end(text, starts.mark),
-        node: started,
+        codes: started,
     }
 }
 
@@ -169,20 +171,38 @@ fn no_codes() -> Codes
         count: 0,
         lens: [0; 8],
         ops: [stop; 256],
+        starts: [0; 16],
     }
 }
 
-// The node with these behaviours and without processes.
-fn coded_node(c: Codes) -> Node
-    ensures { λ r. ⌜ r ≡ codedNode c ⌝ }
+// The node of a plan.
+fn coded_node(codes: Codes) -> Node
+    ensures { λ r. ⌜ r ≡ codedNode codes ⌝ }
 {
     let mut n = Node::blank();
-    let lens = c.lens;
-    let ops = c.ops;
-    n.count = c.count;
+    let lens = codes.lens;
+    let ops = codes.ops;
+    let starts = codes.starts;
+    n.count = codes.count;
     n.lens = lens;
     n.ops = ops;
+    let mut k: usize = 0;
+    while k < 16 {
+        let p = process_of(starts[k]);
+        n.processes[k] = p;
+        k += 1;
+    }
     n
+}
+
+// A process that starts with behaviour b; unborn where b is 0.
+fn process_of(b: u8) -> Process
+    ensures { λ r. ⌜ r ≡ processOf b ⌝ }
+{
+    if b == 0 {
+        return Process::unborn();
+    }
+    Process::fresh(BehaviourNumber(b), Value::ZERO)
 }
 
 // The line at m, which has to be `plan=1`; a line that is missing or lacks its byte 10 is 11, here and below.
@@ -307,7 +327,7 @@ fn read_ops(text: &[u8], m: Mark, codes: Codes, count: u8, len: u8) -> CodesAt
         let op = x.op;
         mark = x.mark;
         if mark.refusal != 0 {
-            return CodesAt { mark, codes };
+            return CodesAt { mark, codes: n };
         }
         let at = b * 32 + (i as usize);
         i += 1;
@@ -361,41 +381,40 @@ fn read_codes(text: &[u8], m: Mark, count: u8) -> CodesAt
 }
 
 // The starts of a plan.
-fn read_starts(text: &[u8], m: Mark, node: Node, count: u8) -> Placed
+fn read_starts(text: &[u8], m: Mark, codes: Codes, count: u8) -> CodesAt
     requires { ⌜ (Within (now text) m) × (m .refusal ≡ 0) ⌝ }
-    ensures { λ r. ⌜ Reached (now (text .entry)) (r .mark) (r .node) (mapped (withEach withStart node) (startLines count (leftAt (now (text .entry)) m))) ⌝ }
+    ensures { λ r. ⌜ Reached (now (text .entry)) (r .mark) (codedNode (r .codes))
+        (mapped (withEach withStart (codedNode codes)) (startLines count (leftAt (now (text .entry)) m))) ⌝ }
 {
     let x = count_at(text, m, b"starts=", 1, 16);
     let mark = x.mark;
     if mark.refusal != 0 {
-        return Placed { mark, node };
+        return CodesAt { mark, codes };
     }
-    start_each(text, mark, node, count, x.number)
+    start_each(text, mark, codes, count, x.number)
 }
 
 // As many starts as `len` says.
-fn start_each(text: &[u8], m: Mark, node: Node, count: u8, len: u8) -> Placed
+fn start_each(text: &[u8], m: Mark, codes: Codes, count: u8, len: u8) -> CodesAt
     requires { ⌜ (Within (now text) m) × (m .refusal ≡ 0) ⌝ }
-    ensures { λ r. ⌜ Reached (now (text .entry)) (r .mark) (r .node)
-        (mapped (withEach withStart node) (times len (startMore count) [] (leftAt (now (text .entry)) m))) ⌝ }
+    ensures { λ r. ⌜ Reached (now (text .entry)) (r .mark) (codedNode (r .codes))
+        (mapped (withEach withStart (codedNode codes)) (times len (startMore count) [] (leftAt (now (text .entry)) m))) ⌝ }
 {
     let mut mark = m;
-    let mut n = node;
+    let mut n = codes;
     let mut last = ProcessNumber(0);
     let mut i: u8 = 0;
     while i < len {
         let x = start_at(text, mark, count, last);
         mark = x.mark;
         if mark.refusal != 0 {
-            return Placed { mark, node };
+            return CodesAt { mark, codes: n };
         }
         let s = x.start;
         last = s.process;
-        let b = s.behaviour;
         let k = last.index();
-        let p = Process::fresh(b, Value::ZERO);
-        n.processes[k] = p;
+        n.starts[k] = s.behaviour.0;
         i += 1;
     }
-    Placed { mark, node: n }
+    CodesAt { mark, codes: n }
 }

@@ -9,6 +9,8 @@
 --   decimal n l            the value of the digits of n and then those of l
 --   numberValue l          the value of l without its sign, at any length
 --   ceiling                past every range; a value that is read is held here
+--   noNatural              told in place of a value where a text is no number: past the ceiling
+--   naturalOf form l       the value of l, held, where it has the form that is asked for
 --   Signed                 a number as it is read: whether it has a minus, and its value
 --   numberOf l             what is read: refused as malformed, or the number with its value held
 --   signedOf n             the answer that the code's `Number` stands for: 11, or the sign and the value
@@ -63,6 +65,12 @@ numberValue l = decimal 0 (unsigned l)
 
 abbrev pub ceiling : ℕ
 ceiling = 4294967296
+
+abbrev pub noNatural : ℕ
+noNatural = 4294967297
+
+abbrev pub naturalOf : Bool → List ℕ → ℕ
+naturalOf form l = cond form (min (decimal 0 l) ceiling) noNatural
 
 pub record Signed : Type 0 where
   pub minus : Bool

@@ -10,7 +10,7 @@ ghost use lib.IntN.{natAbs};
 ghost use lib.ListN.{length, getD, drop};
 ghost use Rattle.node.specs.Lists.{allOf};
 ghost use Rattle.text.specs.Parts.{lineByte, before, placeFrom, fieldsOf, equal, startsWith};
-ghost use Rattle.text.specs.Numbers.{isDigit, unsignedForm, digitValue, decimal, ceiling, signedOf, numberOf, noNumber, rangedOf};
+ghost use Rattle.text.specs.Numbers.{isDigit, unsignedForm, digitValue, ceiling, naturalOf, signedOf, numberOf, noNumber, rangedOf};
 ghost use Rattle.text.specs.Values.{noValue, plusOf, minusOf, intOf, valueOf, letterOf, valueText};
 ghost use Rattle.text.specs.Writing.{Wrote, digits, intText, numberLine};
 
@@ -22,6 +22,9 @@ pub const OUT_OF_RANGE: u8 = 12;
 
 // Past every range: a value is held here, so a number may have any length.
 const CEILING: u64 = 4294967296;
+
+// Told in place of a value where a text is no number: past the ceiling.
+const NO_NATURAL: u64 = 4294967297;
 
 // The largest place: places are counted up to here and stay here.
 const TOP: usize = 18446744073709551615;
@@ -167,16 +170,17 @@ pub fn read_number(s: &[u8]) -> Number
         return Number::Malformed;
     }
     if starts(s, b"-") {
-        let t = &s[1..];
-        if is_unsigned(t) {
-            return Number::Minus(magnitude(t));
+        let m = natural(&s[1..]);
+        if CEILING < m {
+            return Number::Malformed;
         }
+        return Number::Minus(m);
+    }
+    let n = natural(s);
+    if CEILING < n {
         return Number::Malformed;
     }
-    if is_unsigned(s) {
-        return Number::Plus(magnitude(s));
-    }
-    Number::Malformed
+    Number::Plus(n)
 }
 
 // A number that can't be negative, low to high.
@@ -410,11 +414,9 @@ fn digit(b: u8) -> u64
 
 // The value with one digit more, held at the ceiling.
 fn held(n: u64, b: u8) -> u64
+    requires { ⌜ n ≤ ceiling ⌝ }
     ensures { λ r. ⌜ r ≡ min (n * 10 + digitValue b) ceiling ⌝ }
 {
-    if CEILING <= n {
-        return CEILING;
-    }
     let m = n * 10 + digit(b);
     if CEILING < m {
         return CEILING;
@@ -422,46 +424,39 @@ fn held(n: u64, b: u8) -> u64
     m
 }
 
-// The value of digits, held at the ceiling.
-fn magnitude(s: &[u8]) -> u64
-    ensures { λ r. ⌜ r ≡ min (decimal 0 (now (s .entry))) ceiling ⌝ }
+// The value of digits, held at the ceiling. Their form and their value are read in one pass.
+fn digits_value(s: &[u8]) -> u64
+    ensures { λ r. ⌜ r ≡ naturalOf (allOf isDigit (now (s .entry))) (now (s .entry)) ⌝ }
 {
     let mut n = 0;
     let mut k = 0;
     while k < s.len() {
+        if s[k] < b'0' {
+            return NO_NATURAL;
+        }
+        if b'9' < s[k] {
+            return NO_NATURAL;
+        }
         n = held(n, s[k]);
         k += 1;
     }
     n
 }
 
-fn all_digits(s: &[u8]) -> bool
-    ensures { λ r. ⌜ r ≡ allOf isDigit (now (s .entry)) ⌝ }
-{
-    let mut k = 0;
-    while k < s.len() {
-        if s[k] < b'0' {
-            return false;
-        }
-        if b'9' < s[k] {
-            return false;
-        }
-        k += 1;
-    }
-    true
-}
-
-// 0, or digits of which the first is not 0.
-fn is_unsigned(s: &[u8]) -> bool
-    ensures { λ r. ⌜ r ≡ unsignedForm (now (s .entry)) ⌝ }
+// The value of 0, or of digits of which the first is not 0.
+fn natural(s: &[u8]) -> u64
+    ensures { λ r. ⌜ r ≡ naturalOf (unsignedForm (now (s .entry))) (now (s .entry)) ⌝ }
 {
     if s.len() == 0 {
-        return false;
+        return NO_NATURAL;
     }
     if s[0] == b'0' {
-        return s.len() == 1;
+        if s.len() == 1 {
+            return 0;
+        }
+        return NO_NATURAL;
     }
-    all_digits(s)
+    digits_value(s)
 }
 
 fn no_number(refusal: u8) -> Ranged

@@ -1,13 +1,14 @@
 -- Laws of words as numbers: a word is found by its number where it is found by its bytes. Assumes nothing.
 --   packed-none packed-front packed-all   the turns of `word_code`
+--   packed-long          a text that is longer than every word
 --   packed-same          texts of bytes with the same number are the same
 --   index-place          the place of a word among words, by its number
 --   found-here found-next found-none   the turns of `place_of`
 use mathlib.Core.Bool.{Bool, true, false, So, _&&_}
 use mathlib.Core.List.{List, [], _∷_, map}
 use mathlib.Core.Path.{_≡_, refl, sym, ap, _∙_}
-use Prim.Native.Nat.{ℕ, zero, suc, _+_, _-_, _*_, _≤_, _<_, min}
-use native.Mathlib.Nat.{le-refl}
+use Prim.Native.Nat.{ℕ, zero, suc, _+_, _-_, _*_, _^_, _≤_, _<_, min}
+use native.Mathlib.Nat.{le-refl, pow-suc}
 use native.Mathlib.Omega.{arith}
 use borrow.Author.Tests.{eq-eqb, ne-eqb, ltb-true}
 use lib.Dec.{eqb, ltb}
@@ -43,6 +44,16 @@ pub packed-some : (l : List ℕ) → 1 ≤ packed l
 unfolding packed
 packed-some [] = omega arith
 packed-some (b ∷ l) = omega (arith, packed-some l)
+
+packed-least : (k : ℕ) (l : List ℕ) → k ≤ length l → 256 ^ k ≤ packed l
+unfolding packed
+packed-least zero l h = packed-some l
+packed-least (suc k) [] h = absurd (omega arith)
+packed-least (suc k) (b ∷ l) h = omega (arith, packed-least k l (omega arith), pow-suc 256 k)
+
+-- seven bytes and more are past the numbers of all words
+pub packed-long : (l : List ℕ) → 6 < length l → longWord ≡ min (packed l) longWord
+packed-long l h = omega (arith, packed-least 7 l (omega arith))
 
 pub packed-same : (k l : List ℕ) → Bytes k → Bytes l → packed k ≡ packed l → k ≡ l
 unfolding packed

@@ -7,9 +7,13 @@ ghost use Rattle.words.specs.Words.{longWord, PackedAs, placeOf};
 const LONG_WORD: u64 = 0x100_0000_0000_0000;
 
 // A word as one number, by which it is looked up: its bytes as digits in base 256, the first of them the lowest, with a 1 behind the last.
+// A value stands where a clause's word may stand, so that most long texts are no words: they are not read.
 pub fn word_code(word: &[u8]) -> u64
     ensures { λ r. ⌜ PackedAs (now (word .entry)) r ⌝ }
 {
+    if 6 < word.len() {
+        return LONG_WORD;
+    }
     let mut code: u64 = 1;
     let mut k = word.len();
     while 0 < k {

@@ -1,5 +1,4 @@
 -- `load` gives `loadOf`. Assumes nothing.
-use mathlib.Core.Path.{refl}
 use borrow.Author.Needs.{needs}
 use Rattle.plan.proofs.Whole.{load-long, load-stop, load-misplaced, load-placed}
 use Rattle.plan.proofs.load.Statement.{statement}
@@ -36,12 +35,15 @@ returns-3 c =
     let if2 = c .before .before .before .before .before .before .if2 in
     load-misplaced _ (if1 .left) _ (read .ensures) (if2 .left) (c .before .before .misplaced .ensures) (c .before .if3 .taken) (c .refused-load3 .ensures)
 
+coded-node-requires : tie.Need-coded-node-requires
+coded-node-requires c κs = search needs
+
 returns-4 : tie.Need-returns-4
 returns-4 c =
-    let if1 = c .before .before .before .before .before .before .before .before .before .if1 in
-    let read = c .before .before .before .before .before .before .before .before .read-plan in
-    let if2 = c .before .before .before .before .before .if2 in
-    load-placed _ (if1 .left) _ (read .ensures) (if2 .left) (c .before .misplaced .ensures) (c .if3 .left) refl
+    let if1 = c .before .before .before .before .before .before .before .before .before .before .if1 in
+    let read = c .before .before .before .before .before .before .before .before .before .read-plan in
+    let if2 = c .before .before .before .before .before .before .if2 in
+    load-placed _ (if1 .left) _ (read .ensures) (if2 .left) (c .before .before .misplaced .ensures) (c .before .if3 .left) (rw (c .coded-node .ensures))
 
 pub load-spec : {M : Type 1} → statement M
 load-spec =
@@ -55,4 +57,5 @@ load-spec =
     misplaced-requires
     refused-load-requires-3
     returns-3
+    coded-node-requires
     returns-4)

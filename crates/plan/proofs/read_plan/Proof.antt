@@ -1,5 +1,4 @@
 -- `read_plan` reads the lines of a plan. Assumes nothing.
-use mathlib.Core.Path.{_∙_}
 use borrow.Author.Needs.{needs}
 use Rattle.plan.specs.Plans.{planLines, nodeOf}
 use Rattle.plan.proofs.Loops.{made-stop, made-on, then-stop, then-on}
@@ -10,8 +9,8 @@ use Rattle.plan.proofs.read_plan.Tie as tie
 header-at-requires : tie.Need-header-at-requires
 header-at-requires c κs = search needs
 
-blank-requires : tie.Need-blank-requires
-blank-requires c κs = search needs
+no-codes-requires : tie.Need-no-codes-requires
+no-codes-requires c κs = search needs
 
 returns : tie.Need-returns
 unfolding planLines
@@ -25,8 +24,8 @@ slice-aggregate-count-at c = search needs
 count-at-requires : tie.Need-count-at-requires
 count-at-requires c κs = search needs
 
-blank-requires-2 : tie.Need-blank-requires-2
-blank-requires-2 c κs = search needs
+no-codes-requires-2 : tie.Need-no-codes-requires-2
+no-codes-requires-2 c κs = search needs
 
 returns-2 : tie.Need-returns-2
 unfolding planLines
@@ -39,9 +38,6 @@ returns-2 c =
 
 read-codes-requires : tie.Need-read-codes-requires
 read-codes-requires c κs = search needs
-
-coded-node-requires : tie.Need-coded-node-requires
-coded-node-requires c κs = search needs
 
 returns-3 : tie.Need-returns-3
 unfolding planLines
@@ -69,27 +65,25 @@ returns-4 c =
     let count = c .before .before .before .before .before .before .before .before .before .before .before .count-at in
     let if2 = c .before .before .before .before .before .before .before .before .if2 in
     let codes = c .before .before .before .before .before .before .before .read-codes in
-    let coded = c .before .before .before .before .before .coded-node in
     let if3 = c .before .before .before .if3 in
     let starts = c .before .before .read-starts in
     then-on _ _ (header .ensures) countIn nodeOf (if1 .left)
     (then-on _ _ (count .ensures .0) codesIn nodeOf (if2 .left)
     (made-on _ _ _ _ (codes .ensures) (startsIn (count .result .number)) nodeOf (if3 .left)
-    (λ all e. starts-end _ _ (count .result .number) all _ (coded .ensures ∙ e) (starts .ensures) (c .read-end .ensures))))
+    (λ all e. starts-end _ _ (count .result .number) all _ e (starts .ensures) (c .read-end .ensures))))
 
 pub read-plan-spec : {M : Type 1} → statement M
 read-plan-spec =
     tie.close
     (tie.spec
     header-at-requires
-    blank-requires
+    no-codes-requires
     returns
     slice-aggregate-count-at
     count-at-requires
-    blank-requires-2
+    no-codes-requires-2
     returns-2
     read-codes-requires
-    coded-node-requires
     returns-3
     read-starts-requires
     read-end-requires

@@ -2,7 +2,7 @@
 use mathlib.Core.List.{[]}
 use Prim.Native.Nat.{ℕ}
 use borrow.Author.Needs.{needs}
-use Rattle.plan.specs.Plans.{startMore, startLines, withStart, withEach}
+use Rattle.plan.specs.Plans.{codedNode, startMore, startLines, withStart, withEach}
 use Rattle.plan.specs.Reading.{Left, times}
 use Rattle.plan.proofs.Loops.{then-stop, then-on}
 use Rattle.plan.proofs.read_starts.Statement.{statement}
@@ -21,7 +21,7 @@ unfolding startLines
 returns c =
     let args = c .before .before .before .before .before .before .args in
     let count-at = c .before .before .before .count-at in
-    then-stop _ _ (count-at .ensures .0) (λ (n : ℕ) (l : Left). times n (startMore (args .count)) [] l) (withEach withStart (args .node)) _ (c .if1 .taken)
+    then-stop _ _ (count-at .ensures .0) (λ (n : ℕ) (l : Left). times n (startMore (args .count)) [] l) (withEach withStart (codedNode (args .codes))) _ (c .if1 .taken)
 
 start-each-requires : tie.Need-start-each-requires
 start-each-requires c κs =
@@ -33,7 +33,7 @@ unfolding startLines
 returns-2 c =
     let args = c .before .before .before .before .before .before .before .args in
     let count-at = c .before .before .before .before .count-at in
-    then-on _ _ (count-at .ensures .0) (λ (n : ℕ) (l : Left). times n (startMore (args .count)) [] l) (withEach withStart (args .node)) (c .before .if1 .left) (c .start-each .ensures)
+    then-on _ _ (count-at .ensures .0) (λ (n : ℕ) (l : Left). times n (startMore (args .count)) [] l) (withEach withStart (codedNode (args .codes))) (c .before .if1 .left) (c .start-each .ensures)
 
 pub read-starts-spec : {M : Type 1} → statement M
 read-starts-spec =

@@ -22,29 +22,25 @@ slice-aggregate-starts c = search needs
 starts-requires : tie.Need-starts-requires
 starts-requires c κs = search needs
 
-sub-t : tie.Need-sub-t
-sub-t c = starts-long (bytes "-") _ (sym (c .before .starts .ensures) ∙ c .if2 .taken)
+sub-natural : tie.Need-sub-natural
+sub-natural c = starts-long (bytes "-") _ (sym (c .before .starts .ensures) ∙ c .if2 .taken)
 
-part-t-start : tie.Need-part-t-start
-part-t-start c = starts-long (bytes "-") _ (sym (c .before .starts .ensures) ∙ c .if2 .taken)
+part-natural-start : tie.Need-part-natural-start
+part-natural-start c = starts-long (bytes "-") _ (sym (c .before .starts .ensures) ∙ c .if2 .taken)
 
-part-t-end : tie.Need-part-t-end
-part-t-end c = search needs
+part-natural-end : tie.Need-part-natural-end
+part-natural-end c = search needs
 
-is-unsigned-requires : tie.Need-is-unsigned-requires
-is-unsigned-requires c κs = search needs
-
-magnitude-requires : tie.Need-magnitude-requires
-magnitude-requires c κs = search needs
+natural-requires : tie.Need-natural-requires
+natural-requires c κs = search needs
 
 returns-2 : tie.Need-returns-2
 returns-2 c =
-    let same = c .before .before .before .before .before .before .before .before .same in
-    let if1 = c .before .before .before .before .before .before .before .if1 in
-    let starts = c .before .before .before .before .before .starts in
-    let if2 = c .before .before .before .before .if2 in
-    let is-unsigned = c .before .before .is-unsigned in
-    number-minus _ (same .ensures) (if1 .left) (starts .ensures) (if2 .taken) (is-unsigned .ensures) (c .before .if3 .taken) (c .magnitude .ensures)
+    let same = c .before .before .before .before .before .before .before .same in
+    let if1 = c .before .before .before .before .before .before .if1 in
+    let starts = c .before .before .before .before .starts in
+    let if2 = c .before .before .before .if2 in
+    number-minus-bad _ (same .ensures) (if1 .left) (starts .ensures) (if2 .taken) (c .before .natural .ensures) (c .if3 .taken)
 
 returns-3 : tie.Need-returns-3
 returns-3 c =
@@ -52,22 +48,18 @@ returns-3 c =
     let if1 = c .before .before .before .before .before .before .if1 in
     let starts = c .before .before .before .before .starts in
     let if2 = c .before .before .before .if2 in
-    number-minus-bad _ (same .ensures) (if1 .left) (starts .ensures) (if2 .taken) (c .before .is-unsigned .ensures) (c .if3 .left)
+    number-minus _ (same .ensures) (if1 .left) (starts .ensures) (if2 .taken) (c .before .natural .ensures) (c .if3 .left)
 
-is-unsigned-requires-2 : tie.Need-is-unsigned-requires-2
-is-unsigned-requires-2 c κs = search needs
-
-magnitude-requires-2 : tie.Need-magnitude-requires-2
-magnitude-requires-2 c κs = search needs
+natural-requires-2 : tie.Need-natural-requires-2
+natural-requires-2 c κs = search needs
 
 returns-4 : tie.Need-returns-4
 returns-4 c =
-    let same = c .before .before .before .before .before .before .before .same in
-    let if1 = c .before .before .before .before .before .before .if1 in
-    let starts = c .before .before .before .before .starts in
-    let if2 = c .before .before .before .if2 in
-    let is-unsigned2 = c .before .before .is-unsigned2 in
-    number-plus _ (same .ensures) (if1 .left) (starts .ensures) (if2 .left) (is-unsigned2 .ensures) (c .before .if4 .taken) (c .magnitude2 .ensures)
+    let same = c .before .before .before .before .before .before .same in
+    let if1 = c .before .before .before .before .before .if1 in
+    let starts = c .before .before .before .starts in
+    let if2 = c .before .before .if2 in
+    number-plus-bad _ (same .ensures) (if1 .left) (starts .ensures) (if2 .left) (c .before .natural2 .ensures) (c .if4 .taken)
 
 returns-5 : tie.Need-returns-5
 returns-5 c =
@@ -75,7 +67,7 @@ returns-5 c =
     let if1 = c .before .before .before .before .before .if1 in
     let starts = c .before .before .before .starts in
     let if2 = c .before .before .if2 in
-    number-plus-bad _ (same .ensures) (if1 .left) (starts .ensures) (if2 .left) (c .before .is-unsigned2 .ensures) (c .if4 .left)
+    number-plus _ (same .ensures) (if1 .left) (starts .ensures) (if2 .left) (c .before .natural2 .ensures) (c .if4 .left)
 
 pub read-number-spec : {M : Type 1} → statement M
 read-number-spec =
@@ -86,14 +78,12 @@ read-number-spec =
     returns
     slice-aggregate-starts
     starts-requires
-    sub-t
-    part-t-start
-    part-t-end
-    is-unsigned-requires
-    magnitude-requires
+    sub-natural
+    part-natural-start
+    part-natural-end
+    natural-requires
     returns-2
     returns-3
-    is-unsigned-requires-2
-    magnitude-requires-2
+    natural-requires-2
     returns-4
     returns-5)

@@ -5,7 +5,7 @@ use native.Mathlib.Omega.{arith}
 use borrow.Author.Needs.{needs}
 use lib.ListN.{length, drop}
 use Rattle.words.specs.Words.{packed, longWord}
-use Rattle.words.proofs.Words.{packed-all, packed-front, packed-none}
+use Rattle.words.proofs.Words.{packed-all, packed-front, packed-long, packed-none}
 use Rattle.words.proofs.word_code.Statement.{statement}
 use Rattle.words.proofs.word_code.Tie as tie
 
@@ -15,8 +15,11 @@ Inv-loop word code₀ k₀ code k = (k ≤ length word) × (code ≡ min (packed
 abbrev μ-loop : tie.MeasureT-loop
 μ-loop word code₀ k₀ code k = k
 
+returns : tie.Need-returns Inv-loop μ-loop
+returns c = record { is = packed-long _ (c .if1 .taken); bytes = λ k. omega (arith, c .before .shared-slice-known .given k) }
+
 loop-holds : tie.Need-loop-holds Inv-loop μ-loop
-loop-holds c = (search needs, packed-none (c .before .args .word .now))
+loop-holds c = (search needs, packed-none (c .before .before .args .word .now))
 
 sub-k : tie.Need-sub-k Inv-loop μ-loop
 sub-k c = search needs
@@ -35,10 +38,10 @@ loop-again c =
     let turn = c .before .before .before .loop in
     (search needs, packed-front _ _ (c .before .before .loop-test .taken) (turn .inv .0) (turn .inv .1) (c .with-byte .ensures))
 
-returns : tie.Need-returns Inv-loop μ-loop
-returns c = record {
+returns-2 : tie.Need-returns-2 Inv-loop μ-loop
+returns-2 c = record {
   is = packed-all _ _ (c .loop-test .left) (c .before .loop .inv .1);
-  bytes = λ k. omega (arith, c .before .before .shared-slice-known .given k);
+  bytes = λ k. omega (arith, c .before .before .before .shared-slice-known .given k);
 }
 
 pub word-code-spec : {M : Type 1} → statement M
@@ -47,10 +50,11 @@ word-code-spec =
     (tie.spec
     Inv-loop
     μ-loop
+    returns
     loop-holds
     sub-k
     shared-slice-read-with-byte
     with-byte-requires
     loop-less
     loop-again
-    returns)
+    returns-2)
