@@ -9,7 +9,7 @@
 #define OPEN_CONTROLLER_SHORT SIZE_MAX
 
 /* Enough for every answer, whatever the texts are (theorem program-short). */
-#define OPEN_CONTROLLER_OUTPUT 40960
+#define OPEN_CONTROLLER_OUTPUT 45056
 
 /*
  * Plays the steps text on the plan text and writes what the program prints into the first bytes of `out`: `load=number,line` where the

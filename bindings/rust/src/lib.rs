@@ -12,7 +12,7 @@ extern "C" {
 }
 
 /// Enough for every answer.
-pub const OUTPUT: usize = 40_960;
+pub const OUTPUT: usize = 45_056;
 
 /// The buffer is shorter than what is to be written (refusal 30); it is unchanged.
 #[derive(Debug, PartialEq, Eq, Clone, Copy)]

@@ -10,7 +10,7 @@ use super::unsound;
 use node::ANY;
 use node::BehaviourNumber;
 use node::EXACT;
-use node::NOTE;
+use node::LAST_KIND;
 use node::Node;
 use node::Op;
 use node::ProcessNumber;
@@ -112,7 +112,7 @@ fn clause_registers() {
     );
 }
 
-// A trap flag is 0 or 1, a clause's kind one of six.
+// A trap flag is 0 or 1, a clause's kind one of seven.
 fn smalls() {
     refused::with_op(b"31 a trap flag of 7", AT_JUMP, with_small(8, 7));
     refused::with_op(b"31 a trap flag of 2", AT_JUMP, with_small(8, 2));
@@ -120,12 +120,12 @@ fn smalls() {
     refused::with_op(
         b"31 a clause of no kind",
         AT_CLAUSE,
-        with_small(11, NOTE + 1),
+        with_small(11, LAST_KIND + 1),
     );
     holds::with_op(
         b"sound: a clause of the last kind",
         AT_CLAUSE,
-        with_small(11, NOTE),
+        with_small(11, LAST_KIND),
     );
 }
 

@@ -1,5 +1,5 @@
 // Cases that are no folders of tests/cases: nodes made by hand, calls that the program does not make, and texts at their limits. The file
-// stdout was worked out from document 01 by hand.
+// stdout was worked out from documents 01 and 02 by hand.
 mod calls;
 mod codes;
 mod full;
@@ -12,12 +12,14 @@ mod refused;
 mod show;
 mod texts;
 mod unsound;
+mod watches;
 
 fn main() {
     full::all();
     unsound::all();
     codes::all();
     limits::all();
+    watches::all();
     calls::all();
     plays::all();
     texts::all();

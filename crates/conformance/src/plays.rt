@@ -48,14 +48,14 @@ fn lent(name: &[u8], numbers: &[u32]) {
 // The listing is that of the node behind the steps.
 fn listed() {
     let numbers = [256u32, 0];
-    let mut out = [b'#'; 100];
+    let mut out = [b'#'; 120];
     counted(b"play and list", &numbers, &mut out);
 }
 
-// The listing has 86 bytes, and so has the buffer.
+// The listing has 105 bytes, and so has the buffer.
 fn listed_fits() {
     let numbers = [256u32];
-    let mut out = [b'#'; 86];
+    let mut out = [b'#'; 105];
     counted(
         b"play and list: the buffer is just long enough",
         &numbers,
@@ -63,10 +63,10 @@ fn listed_fits() {
     );
 }
 
-// A buffer of 85 bytes is too short: it stays, and so does the node.
+// A buffer of 104 bytes is too short: it stays, and so does the node.
 fn listed_short() {
     let numbers = [256u32];
-    let mut out = [b'#'; 85];
+    let mut out = [b'#'; 104];
     counted(b"play and list: 30 leaves the node", &numbers, &mut out);
     whole(&out);
 }
@@ -91,7 +91,7 @@ fn listed_long_short() {
 // With room for the listing 32 is told, before 20 of the first step.
 fn listed_long() {
     let numbers = [0u32; 4097];
-    let mut out = [b'#'; 100];
+    let mut out = [b'#'; 120];
     counted(b"play and list: 32 before 20", &numbers, &mut out);
 }
 

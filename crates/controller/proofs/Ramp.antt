@@ -5,16 +5,16 @@ use mathlib.Core.Bool.{Bool, true, false}
 use mathlib.Core.List.{List, [], _∷_, _++_, map}
 use mathlib.Core.Path.{_≡_, refl, _∙_, ap}
 use Prim.Native.Nat.{ℕ, _*_}
-use lib.ListN.{length, set, replicate}
+use lib.ListN.{length, set, replicate, drop}
 use lib.Seq.{sets}
 use Rattle.node.specs.declared.Message.{Message}
-use Rattle.node.specs.declared.Message.the-variants.{Plain, Note}
+use Rattle.node.specs.declared.Message.the-variants.{Plain, Note, Down as DownMessage}
 use Rattle.node.specs.declared.Node.{Node}
 use Rattle.node.specs.declared.Op.{Op}
 use Rattle.node.specs.declared.Peers.{Peers}
 use Rattle.node.specs.declared.Process.{Process}
 use Rattle.node.specs.declared.Signal.{Signal}
-use Rattle.node.specs.declared.Signal.the-variants.{Msg, Exit, Link}
+use Rattle.node.specs.declared.Signal.the-variants.{Msg, Exit, Link, Monitor, Down}
 use Rattle.node.specs.declared.Stage.the-variants.{Live, Closing, Gone}
 use Rattle.node.specs.declared.Value.{Value}
 use Rattle.node.specs.declared.Value.the-variants.{Atom}
@@ -24,11 +24,12 @@ use Rattle.node.specs.Mailboxes.{noMessage, messages, slotOf}
 use Rattle.node.specs.Nodes.{pair}
 use Rattle.node.specs.Ops.{stopOp, kindsOf}
 use Rattle.node.specs.Processes.{unborn, fresh, register, withRegister, moved, advanced, trapped, linksTo, linked, unlinked, ended, gone, withPlace}
+use Rattle.node.specs.Processes.{watchesOver, watching, unwatching, watched, unwatched, withWatches, withWatchers}
 use Rattle.node.specs.Sets.{noPeers, bitsOf, has, withPeer, withoutPeer, lowestPeer}
 use Rattle.node.specs.Rows.{noSignal, signals, cellOf}
-use Rattle.node.specs.Values.{intZero, normal, kill, killed, badarith, pid, isNumber, fitsInt, intKind, atomKind, sameValue}
+use Rattle.node.specs.Values.{intZero, normal, kill, killed, badarg, badarith, noproc, pid, isNumber, fitsInt, intKind, atomKind, sameValue}
 use Rattle.node.specs.Texts.{bytes}
-use Rattle.rules.specs.Arrive.{arrives, exits}
+use Rattle.rules.specs.Arrive.{arrives, exits, downs}
 use Rattle.rules.specs.Behaviours.{operand, instruction, operandInRange, inRange, hasClauses, targetsFree, wellPlaced, codeSound}
 use Rattle.rules.specs.Nodes.{Sound, sound, shaped, viewSound, view, behavioursOf, code, setOf, standing, runningSound, rowSound}
 use Rattle.rules.specs.Receive.{receives, fits}
@@ -48,26 +49,40 @@ use Rattle.controller.specs.Program.{playedText, steps, afterLoad, progr
 
 -- ---- a node to check on: processes 1 and 2 are started, the behaviours are those that the checks run
 
--- 1 add,0,1   2 send,0,1   3 recv,2 with the clauses atom, int   4 spawn,1,1,1
+-- 1 add,0,1   2 send,0,1   3 recv,2 with the clauses atom, int   4 spawn,1,1,1   5 monitor,0
 ramp-ops : List Op
 ramp-ops =
     firsts stopOp 32 (opOf 3 0 1 0 0 intZero ∷ [])
     ++ firsts stopOp 32 (opOf 4 0 1 0 0 intZero ∷ [])
     ++ firsts stopOp 32 (opOf 10 0 0 0 2 intZero ∷ opOf 11 0 1 3 atomKind intZero ∷ opOf 11 0 1 3 intKind intZero ∷ [])
     ++ firsts stopOp 32 (record { number = 9; r = 1; s = 0; target = 0; small = 0; value = intZero; process = record { 0 = 1 }; behaviour = record { 0 = 1 } } ∷ [])
-    ++ replicate 128 stopOp
+    ++ firsts stopOp 32 (opOf 16 0 0 0 0 intZero ∷ [])
+    ++ replicate 96 stopOp
 
 -- process 1, its mailbox, and the row in flight from j to i
 world : Process → List Message → ℕ → ℕ → List Signal → Node
 world p ms j i xs = record {
-  count = 4;
-  lens = 1 ∷ 1 ∷ 3 ∷ 1 ∷ replicate 4 0;
+  count = 5;
+  lens = 1 ∷ 1 ∷ 3 ∷ 1 ∷ 1 ∷ replicate 3 0;
   ops = ramp-ops;
   processes = p ∷ fresh (record { 0 = 1 }) intZero ∷ replicate 14 unborn;
   waiting = length ms ∷ replicate 15 0;
   slots = firsts noMessage 256 (map slotOf ms);
   counts = set (replicate 256 0) (pair j i) (length xs);
   cells = sets (replicate 1024 noSignal) (4 * pair j i) (map cellOf xs);
+}
+
+-- a node with the signals xs in flight from j to i
+flying : ℕ → ℕ → List Signal → Node → Node
+flying j i xs n = record {
+  count = n .count;
+  lens = n .lens;
+  ops = n .ops;
+  processes = n .processes;
+  waiting = n .waiting;
+  slots = n .slots;
+  counts = set (n .counts) (pair j i) (length xs);
+  cells = sets (n .cells) (4 * pair j i) (map cellOf xs);
 }
 
 -- a node whose slot k still holds message x, which its count no longer reaches
@@ -85,15 +100,54 @@ holding k x n = record {
 
 -- process 1 in behaviour b, with r0 = v, r1 = w, the trap flag and the links
 rower : ℕ → Value → Value → Bool → Peers → Process
-rower b v w f links = record { stage = Live; behaviour = record { 0 = b }; place = 0; r0 = v; r1 = w; r2 = intZero; r3 = intZero; trap = f; links = links; reason = intZero }
+rower b v w f links = record {
+  stage = Live;
+  behaviour = record { 0 = b };
+  place = 0;
+  trap = f;
+  r0 = v;
+  r1 = w;
+  r2 = intZero;
+  r3 = intZero;
+  links = links;
+  watches = noPeers;
+  watchers = noPeers;
+  reason = intZero;
+}
 
 -- process 1 in behaviour 1, ended with a reason: its registers r0 and r1, its trap flag and its links
 closed : Value → Value → Bool → Peers → Value → Process
-closed v w f links reason = record { stage = Closing; behaviour = record { 0 = 1 }; place = 0; r0 = v; r1 = w; r2 = intZero; r3 = intZero; trap = f; links = links; reason = reason }
+closed v w f links reason = record {
+  stage = Closing;
+  behaviour = record { 0 = 1 };
+  place = 0;
+  trap = f;
+  r0 = v;
+  r1 = w;
+  r2 = intZero;
+  r3 = intZero;
+  links = links;
+  watches = noPeers;
+  watchers = noPeers;
+  reason = reason;
+}
 
 -- process 1, gone
 over : Process
-over = record { stage = Gone; behaviour = record { 0 = 1 }; place = 0; r0 = intZero; r1 = intZero; r2 = intZero; r3 = intZero; trap = false; links = noPeers; reason = normal }
+over = record {
+  stage = Gone;
+  behaviour = record { 0 = 1 };
+  place = 0;
+  trap = false;
+  r0 = intZero;
+  r1 = intZero;
+  r2 = intZero;
+  r3 = intZero;
+  links = noPeers;
+  watches = noPeers;
+  watchers = noPeers;
+  reason = normal;
+}
 
 -- ---- a row of the table
 
@@ -153,6 +207,14 @@ sender place k = world (withPlace (rower 2 (pid 2) (int 7) false unlinkedLinks) 
 spawner : Process
 spawner = rower 4 intZero intZero false unlinkedLinks
 
+-- process 1 of behaviour 1 that watches process 2
+watcher : Process
+watcher = withWatches (plain false unlinkedLinks) linkTwo
+
+-- process 1 at `monitor,0`
+monitorer : Value → Process
+monitorer v = rower 5 v intZero false unlinkedLinks
+
 -- ---- P2: the sample of document 01, byte by byte
 
 sample-plan : List ℕ
@@ -168,8 +230,8 @@ sample-steps = bytes "run=1\nrun=1\nrun=1\narrive=2,1\nrun=2\n"
 sample-output : List ℕ
 sample-output =
     bytes "accepted=5\nrefused=0\n"
-    ++ bytes "process=1\nstage=live\nbehaviour=1\nplace=3\nr0=p2\nr1=i12\nr2=i0\nr3=i0\ntrap=0\nlinks=\nmail=0\n"
-    ++ bytes "process=2\nstage=live\nbehaviour=2\nplace=2\nr0=i12\nr1=i0\nr2=i0\nr3=i0\ntrap=0\nlinks=\nmail=0\n"
+    ++ bytes "process=1\nstage=live\nbehaviour=1\nplace=3\nr0=p2\nr1=i12\nr2=i0\nr3=i0\ntrap=0\nlinks=\nwatches=\nwatchers=\nmail=0\n"
+    ++ bytes "process=2\nstage=live\nbehaviour=2\nplace=2\nr0=i12\nr1=i0\nr2=i0\nr3=i0\ntrap=0\nlinks=\nwatches=\nwatchers=\nmail=0\n"
 
 abbrev sampleActions : List Action
 sampleActions = run 1 ∷ run 1 ∷ run 1 ∷ arrive 2 1 ∷ run 2 ∷ []
@@ -211,6 +273,23 @@ table =
     ∷ playing (world (closed intZero intZero false unlinkedLinks normal) [] 1 1 []) (run 1 ∷ run 1 ∷ []) 1 22 (world over [] 1 1 [])
     -- closing with the links 2 and 3: exit(a9,1) is sent to 2, and 3 stays
     ∷ playing (world (closed intZero intZero false linkTwoThree (Atom 9)) [] 1 2 []) (run 1 ∷ []) 1 0 (world (closed intZero intZero false linkThree (Atom 9)) [] 1 2 (Exit (Atom 9) true ∷ []))
+    -- a monitor at a live process: its sender becomes a watcher
+    ∷ arrival (plain false unlinkedLinks) 2 Monitor (withWatchers (plain false unlinkedLinks) linkTwo) []
+    -- a down from a process that is watched joins, and the watch is over; from another it is dropped
+    ∷ arrival watcher 2 (Down (Atom 9)) (plain false unlinkedLinks) (DownMessage (record { 0 = 2 }) (Atom 9) ∷ [])
+    ∷ arrival (plain false unlinkedLinks) 2 (Down (Atom 9)) (plain false unlinkedLinks) []
+    -- the same at 16 messages: 24, and dropped
+    ∷ refusing (world watcher (fives 16) 2 1 (Down (Atom 9) ∷ [])) (arrive 1 2) 24
+    ∷ playing (world (plain false unlinkedLinks) (fives 16) 2 1 (Down (Atom 9) ∷ [])) (arrive 1 2 ∷ []) 1 0 (world (plain false unlinkedLinks) (fives 16) 2 1 [])
+    -- a monitor at a gone process is answered with down(a5); with 4 signals in flight back: 26
+    ∷ playing (world over [] 2 1 (Monitor ∷ [])) (arrive 1 2 ∷ []) 1 0 (world over [] 1 2 (Down noproc ∷ []))
+    ∷ refusing (flying 1 2 (replicate 4 (Msg (int 7))) (world over [] 2 1 (Monitor ∷ []))) (arrive 1 2) 26
+    -- closing with the link 2 and the watcher 3: exit(a0,1), then down(a0), then gone
+    ∷ playing (world (withWatchers (closed intZero intZero false linkTwo normal) linkThree) [] 1 1 []) (run 1 ∷ run 1 ∷ run 1 ∷ []) 3 0
+    (flying 1 3 (Down normal ∷ []) (world over [] 1 2 (Exit normal true ∷ [])))
+    -- monitor to itself: nothing; without a p: ends with a3
+    ∷ running (monitorer (pid 1)) (withPlace (monitorer (pid 1)) 1)
+    ∷ running (monitorer (int 7)) (ended (monitorer (int 7)) badarg)
     -- the sample plan, after run=1 three times, arrive=2,1, run=2
     ∷ playing started sampleActions 5 0
     (holding 16 (Plain (int 12)) (sample (withPlace (rower 1 (pid 2) (int 12) false unlinkedLinks) 3) (withPlace (rower 2 (int 12) intZero false unlinkedLinks) 2)))
@@ -251,5 +330,7 @@ unfolding play played
 no-steps n h = rw h
 
 pub ramp : All table
-unfolding All Holds table arrival running refusing plain rower closed over world holding fives sender spawner unlinkedLinks linkTwo linkThree linkTwoThree sample started ramp-ops opOf play played step rule ready commit incoming decide numbered ownerBorn signalWaits pairHasRoom numberFree sound shaped viewSound view behavioursOf code setOf has bitsOf standing runningSound rowSound receives fits runs runsLive runsOp closes arrives exits operand instruction operandInRange inRange hasClauses targetsFree wellPlaced codeSound isNumber fitsInt sameValue messages signals changed joined left popped emptied register withRegister moved advanced trapped linksTo linked unlinked withPeer withoutPeer lowestPeer ended gone kindsOf
-ramp = (no-steps, (sample-program, (refl, (refl, (refl, (refl, (refl, (refl, (refl, (refl, (refl, (refl, (refl, (refl, (refl, (refl, (refl, (refl, (refl, (refl, tt))))))))))))))))))))
+unfolding All Holds table arrival running refusing plain rower closed over world holding fives sender spawner watcher monitorer flying unlinkedLinks linkTwo linkThree linkTwoThree sample started ramp-ops opOf play played step rule ready commit incoming decide numbered ownerBorn signalWaits pairHasRoom numberFree sound shaped viewSound view behavioursOf code setOf has bitsOf standing runningSound rowSound receives fits runs runsLive runsOp closes arrives exits downs operand instruction operandInRange inRange hasClauses targetsFree wellPlaced codeSound isNumber fitsInt sameValue messages signals changed joined left popped emptied register withRegister moved advanced trapped linksTo linked unlinked watchesOver watching unwatching watched unwatched withPeer withoutPeer lowestPeer ended gone kindsOf
+ramp =
+    let others : All (drop 16 table) = (refl, (refl, (refl, (refl, (refl, (refl, (refl, (refl, (refl, (refl, (refl, (refl, (refl, (refl, tt)))))))))))))) in
+    (no-steps, (sample-program, (refl, (refl, (refl, (refl, (refl, (refl, (refl, (refl, (refl, (refl, (refl, (refl, (refl, (refl, others))))))))))))))))

@@ -52,6 +52,6 @@ afterLoad l s =
 unfoldable pub programText : List ℕ → List ℕ → List ℕ
 programText planText stepsText = afterLoad (loadOf planText) (scheduleOf stepsText)
 
--- a listing of at most 39,952 bytes and two short lines before it, or one short line
+-- a listing of at most 41,792 bytes and two short lines before it, or one short line
 abbrev pub longestAnswer : ℕ
-longestAnswer = 40960
+longestAnswer = 45056

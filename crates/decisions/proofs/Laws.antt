@@ -1,5 +1,5 @@
--- Two values by whether both are integers; what the last arm of a match knows; an op by its number; what is said of a process with messages; the
--- lowest link. Assumes nothing.
+-- Two values by whether both are integers; the process that a value names; what the last arm of a match knows; an op by its number; what is said
+-- of a process with messages; the lowest link and watcher. Assumes nothing.
 use mathlib.Core.Bool.{Bool, true, false, cond, _&&_, false≢true}
 use mathlib.Core.List.{List, []}
 use mathlib.Core.Option.{Option, none, some}
@@ -17,19 +17,21 @@ use Rattle.node.specs.declared.Op.{Op}
 use Rattle.node.specs.declared.Process.{Process}
 use Rattle.node.specs.declared.ProcessNumber.{ProcessNumber}
 use Rattle.node.specs.declared.Signal.{Signal}
-use Rattle.node.specs.declared.Signal.the-variants.{Exit}
+use Rattle.node.specs.declared.Signal.the-variants.{Exit, Down}
 use Rattle.node.specs.declared.Stage.{Stage}
 use Rattle.node.specs.Mailboxes.{noMessage}
 use Rattle.node.specs.Nodes.{noOp}
-use Rattle.node.specs.Processes.{register, unlinked, ended}
+use Rattle.node.specs.Ops.{opCount}
+use Rattle.node.specs.Processes.{register, unlinked, unwatched, ended}
 use Rattle.node.specs.declared.Value.{Value}
+use Rattle.node.specs.declared.Value.the-variants.{Int, Atom, Pid}
 use Rattle.node.specs.Values.{normal}
 use Rattle.rules.specs.Answers.{Answer, mailboxFull}
 use Rattle.rules.specs.Arrive.{joinsWith, arrivesIn, arrives}
 use Rattle.rules.specs.Effects.{State, Effect, becomes, ends, sends}
 use Rattle.rules.specs.Receive.{receives}
-use Rattle.rules.specs.Run.{onIntegers, stops, opTable, runsOp, runsLive, runsIn, runs, closesTo}
-use Rattle.decisions.specs.Answers.{unread, tells, refusing, becoming, decisionOf, says, ranOp, codeAt, ran, arrived, integersOf}
+use Rattle.rules.specs.Run.{sendsTo, toOther, onIntegers, stops, opTable, runsOp, runsLive, runsIn, runs, closesTo}
+use Rattle.decisions.specs.Answers.{unread, tells, refusing, becoming, decisionOf, says, ranOp, codeAt, ran, arrived, integersOf, namedBy}
 use Rattle.decisions.specs.declared.Pair.the-variants.{Not, Both}
 
 -- ---- two values, where both are integers, or not
@@ -44,6 +46,20 @@ module _ (st : State) (v : Value) (f : ℤ → ℤ → Answer Effect) where
   integers-both (some z) (some w) x y e = cc e
   integers-both (some z) none x y e = absurd (let z : _≡_ {A = ℕ} 0 1 = cc e in omega arith)
   integers-both none b x y e = absurd (let z : _≡_ {A = ℕ} 0 1 = cc e in omega arith)
+
+-- ---- the process that a value names
+
+-- what a sender becomes is asked for no other process than that
+asks-named : (i : ℕ) (p : Process) (v : Value) (q : ℕ → Process) (x : Signal) →
+    says p 0 (λ st. toOther i st v (sendsTo st v (λ j. q (namedBy v)) x)) ≡ says p 0 (λ st. toOther i st v (sendsTo st v q x))
+asks-named i p (Int z) q x = refl
+asks-named i p (Atom a) q x = refl
+asks-named i p (Pid j) q x = refl
+
+-- by an op that reads w in a register, finds that it names j, and makes next of its process
+pub to-named : {v w : Value} {j : ℕ} {next : Process} (i : ℕ) (p : Process) (q : ℕ → Process) (x : Signal) → w ≡ v → j ≡ namedBy w → next ≡ q j →
+    says p 0 (λ st. toOther i st w (sendsTo st w (λ k. next) x)) ≡ says p 0 (λ st. toOther i st v (sendsTo st v q x))
+to-named {v = v} i p q x read names made = rw (made, names, read, asks-named i p v q x)
 
 -- ---- the last arm of a match
 
@@ -67,16 +83,11 @@ module _ (i : ProcessNumber) (p : Process) (o : Op) where
   unfolding ranOp runsOp
   ran-at k e = ap (λ (j : ℕ). says p 0 (entry j)) (sym e)
 
-  -- the last op of the table is stop
-  entry-stop : (k : ℕ) (st : State) → 15 ≤ k → entry k st ≡ stops st o
-  entry-stop k st h = go (ℕ-discrete k 15)
-    where
-      go : Dec (k ≡ 15) → entry k st ≡ stops st o
-      go (yes e) = ap (λ (j : ℕ). entry j st) e
-      go (no q) = List·getD-eq-default (opTable [] (i .0) st o) (stops st o) {n = k} (omega arith)
-
-  pub ran-stop : 15 ≤ o .number → says p 0 (λ st. stops st o) ≡ ranOp i p o
-  ran-stop h = let st = unread p 0 in ap (decisionOf st) (sym (entry-stop (o .number) st h)) ∙ ran-at (o .number) refl
+  -- past the table
+  pub ran-stop : opCount ≤ o .number → says p 0 (λ st. stops st o) ≡ ranOp i p o
+  ran-stop h =
+      let st = unread p 0 in
+      ap (decisionOf st) (sym (List·getD-eq-default (opTable [] (i .0) st o) (stops st o) {n = o .number} h)) ∙ ran-at (o .number) refl
 
 -- ---- a run by the stage, and at a place
 
@@ -129,8 +140,19 @@ pub comes-at : (i j : ProcessNumber) (p : Process) (k : ℕ) (x : Signal) {s : S
 unfolding arrived arrives
 comes-at i j p k x e = sym (ap (λ (s : Stage). says p k (λ st. arrivesIn s (i .0) (j .0) st x)) e)
 
--- ---- the lowest link
+-- ---- the lowest link, and the lowest watcher
 
-pub closes-to : (st : State) (j : ℕ) → (j ≡ 0 → ⊥) → closesTo st j ≡ sends st (unlinked (st .process) j) j (Exit (st .process .reason) true)
-closes-to st zero h = absurd (h refl)
-closes-to st (suc j) h = refl
+module _ (st : State) (j k : ℕ) where
+  pub closes-linked : (j ≡ 0 → ⊥) → closesTo st j k ≡ sends st (unlinked (st .process) j) j (Exit (st .process .reason) true)
+  closes-linked h = go j h
+    where
+      go : (j : ℕ) → (j ≡ 0 → ⊥) → closesTo st j k ≡ sends st (unlinked (st .process) j) j (Exit (st .process .reason) true)
+      go zero h = absurd (h refl)
+      go (suc j) h = refl
+
+  pub closes-watched : (k ≡ 0 → ⊥) → closesTo st 0 k ≡ sends st (unwatched (st .process) k) k (Down (st .process .reason))
+  closes-watched h = go k h
+    where
+      go : (k : ℕ) → (k ≡ 0 → ⊥) → closesTo st 0 k ≡ sends st (unwatched (st .process) k) k (Down (st .process .reason))
+      go zero h = absurd (h refl)
+      go (suc k) h = refl

@@ -19,18 +19,18 @@ use Rattle.node.specs.declared.Op.{Op}
 use Rattle.node.specs.declared.Process.{Process}
 use Rattle.node.specs.declared.ProcessNumber.{ProcessNumber}
 use Rattle.node.specs.declared.Signal.{Signal}
-use Rattle.node.specs.declared.Signal.the-variants.{Msg, Exit, Link, Unlink}
+use Rattle.node.specs.declared.Signal.the-variants.{Msg, Exit, Link, Unlink, Monitor, Demonitor, Down}
 use Rattle.node.specs.declared.Stage.{Stage}
 use Rattle.node.specs.declared.Stage.the-variants.{Unborn, Live, Closing, Gone}
 use Rattle.node.specs.declared.Value.{Value}
 use Rattle.node.specs.declared.Value.the-variants.{Int}
 use Rattle.node.specs.Mailboxes.{noMessage}
 use Rattle.node.specs.Nodes.{noOp}
-use Rattle.node.specs.Processes.{register, advanced, linksTo, linked, unlinked}
+use Rattle.node.specs.Processes.{register, advanced, linksTo, linked, unlinked, watchesOver, watching, unwatching}
 use Rattle.node.specs.Sets.{lowestPeer}
 use Rattle.node.specs.Values.{normal, kill, badarg, badarith, pid, fitsInt, sameValue}
 use Rattle.rules.specs.Answers.{Answer, refused, done, need, mailboxFull, noFit}
-use Rattle.rules.specs.Arrive.{joinsWith, exits, takes, arrivesIn, arrives}
+use Rattle.rules.specs.Arrive.{joinsWith, exits, downs, takes, isMonitor, answers, arrivesIn, arrives}
 use Rattle.rules.specs.Effects.{State, joining, Effect, becomes, ends, sends}
 use Rattle.rules.specs.Receive.{receives}
 use Rattle.rules.specs.Run.{setsRegister, jumpsIf, integerIn, onIntegers, setsSum, adds, compares, processIn, toProcess, sendsTo, toOther, stops, opTable, runsOp, closesTo, closes, runsLive}
@@ -139,7 +139,7 @@ module _ (code : List Op) (i : ℕ) (p : Process) (m : List Message) where
                               refl,
                               (
                                 refl,  -- clause, jump, same
-                                (runs-compares (o .target) r s, (refl, tt)),
+                                (runs-compares (o .target) r s, (refl, (runs-other r (watching p) Monitor, (runs-other r (unwatching p) Demonitor, tt)))),
                               ),
                             ),
                           ),
@@ -153,7 +153,7 @@ module _ (code : List Op) (i : ℕ) (p : Process) (m : List Message) where
           ),
         ),
       ),
-    )  -- less, stop
+    )  -- less, stop, monitor, demonitor
 
     runs-op : Runs (runsOp ops i bare o) (runsOp code i st o)
     unfolding runsOp
@@ -161,11 +161,12 @@ module _ (code : List Op) (i : ℕ) (p : Process) (m : List Message) where
 
   runs-closes : Runs (closes bare) (closes st)
   unfolding closes
-  runs-closes = go (lowestPeer (p .links))
+  runs-closes = go (lowestPeer (p .links)) (lowestPeer (p .watchers))
     where
-      go : (j : ℕ) → Runs (closesTo bare j) (closesTo st j)
-      go zero = refl
-      go (suc j) = refl
+      go : (j k : ℕ) → Runs (closesTo bare j k) (closesTo st j k)
+      go (suc j) k = refl
+      go zero (suc k) = refl
+      go zero zero = refl
 
   module _ (len : ℕ) (o : Op) where
     abbrev ops : List Op
@@ -216,17 +217,27 @@ module _ (code : List Op) (i : ℕ) (p : Process) (m : List Message) where
         (heard-cond k (p .trap) _ _ (heard-joins _ _)
         (heard-cond k (sameValue v normal && not (eqb j i)) _ _ refl refl)))
 
+    heard-downs : (v : Value) → heard k (downs j counted v) ≡ downs j st v
+    unfolding downs
+    heard-downs v = heard-cond k (watchesOver p j) _ _ (heard-joins _ _) refl
+
     heard-takes : (x : Signal) → heard k (takes i j counted x) ≡ takes i j st x
     heard-takes (Msg v) = heard-joins p _
     heard-takes (Exit v b) = heard-exits v b
     heard-takes Link = refl
     heard-takes Unlink = refl
+    heard-takes Monitor = refl
+    heard-takes Demonitor = refl
+    heard-takes (Down v) = heard-downs v
+
+    heard-answers : (x : Signal) → heard k (answers j counted x) ≡ answers j st x
+    heard-answers x = heard-cond k (isMonitor x) _ _ refl refl
 
     heard-arrives : (s : Stage) (x : Signal) → heard k (arrivesIn s i j counted x) ≡ arrivesIn s i j st x
     heard-arrives Unborn x = refl
     heard-arrives Live x = heard-takes x
-    heard-arrives Closing x = refl
-    heard-arrives Gone x = refl
+    heard-arrives Closing x = heard-answers x
+    heard-arrives Gone x = heard-answers x
 
 -- a run whose length and op are those of its code
 pub run-means : (code : List Op) (i : ProcessNumber) (p : Process) (len : ℕ) (o : Op) (m : List Message) → (p .stage ≡ Live → At code len (p .place) o) →
@@ -275,7 +286,7 @@ module _ (i j : ℕ) (p : Process) (k : ℕ) where
       go false = (refl, refl)
 
   quiet-takes : (x : Signal) → Quiet (takes i j (unread p k) x)
-  unfolding exits
+  unfolding exits downs
   quiet-takes (Msg v) = quiet-joins p _
   quiet-takes (Exit v b) =
       quiet-cond (b && not (linksTo p j)) _ _ (refl, refl)
@@ -284,12 +295,15 @@ module _ (i j : ℕ) (p : Process) (k : ℕ) where
       (quiet-cond (sameValue v normal && not (eqb j i)) _ _ (refl, refl) (refl, refl))))
   quiet-takes Link = (refl, refl)
   quiet-takes Unlink = (refl, refl)
+  quiet-takes Monitor = (refl, refl)
+  quiet-takes Demonitor = (refl, refl)
+  quiet-takes (Down v) = quiet-cond (watchesOver p j) _ _ (quiet-joins _ _) (refl, refl)
 
   quiet-arrives : (s : Stage) (x : Signal) → Quiet (arrivesIn s i j (unread p k) x)
   quiet-arrives Unborn x = (refl, refl)
   quiet-arrives Live x = quiet-takes x
-  quiet-arrives Closing x = (refl, refl)
-  quiet-arrives Gone x = (refl, refl)
+  quiet-arrives Closing x = quiet-cond (isMonitor x) _ _ (refl, refl) (refl, refl)
+  quiet-arrives Gone x = quiet-cond (isMonitor x) _ _ (refl, refl) (refl, refl)
 
 pub arrival-quiet : (i j : ProcessNumber) (p : Process) (k : ℕ) (x : Signal) → (arrived i j p k x .receives ≡ false) × (arrived i j p k x .spawns ≡ false)
 unfolding arrived arrives

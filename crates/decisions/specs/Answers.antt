@@ -15,7 +15,7 @@
 --   mailOf, sentOf, bornOf what becomes of the mailbox by a record, what it sends, and whom it brings to life
 --   effectOf i e           the effect that a record tells of process i
 --   answerOf code i st e   the rules' answer that record e tells of process i, in state st and with its code: of a run and of an arrival
---   senderOf p x j         process p once it sends x to j: link and unlink change its own links
+--   namedBy v              the process that value v names; 0 where it names none
 --   sumOf z                the sum of two integers, where it is one too
 --   integersOf a b         two integers, where both are there
 use mathlib.Core.Bool.{Bool, true, false, cond}
@@ -30,17 +30,18 @@ use Rattle.node.specs.declared.Op.{Op}
 use Rattle.node.specs.declared.Process.{Process}
 use Rattle.node.specs.declared.ProcessNumber.{ProcessNumber}
 use Rattle.node.specs.declared.Signal.{Signal}
-use Rattle.node.specs.declared.Signal.the-variants.{Msg, Exit, Link, Unlink}
+use Rattle.node.specs.declared.Signal.the-variants.{Link}
+use Rattle.node.specs.declared.Value.{Value}
 use Rattle.node.specs.declared.Value.the-variants.{Int}
 use Rattle.node.specs.Mailboxes.{noMessage}
 use Rattle.node.specs.Nodes.{noOp, noProcess}
-use Rattle.node.specs.Processes.{fresh, linked, unlinked}
+use Rattle.node.specs.Processes.{fresh}
 use Rattle.node.specs.Values.{intZero, pid, fitsInt}
 use Rattle.rules.specs.Answers.{Answer, refused, done, noFit}
 use Rattle.rules.specs.Arrive.{arrives}
 use Rattle.rules.specs.Effects.{State, MailChange, unchanged, joining, leaving, Sending, Birth, Effect}
 use Rattle.rules.specs.Receive.{receives}
-use Rattle.rules.specs.Run.{runs, runsOp}
+use Rattle.rules.specs.Run.{processIn, runs, runsOp}
 use Rattle.decisions.specs.declared.Pair.{Pair}
 use Rattle.decisions.specs.declared.Pair.the-variants.{Not, Both}
 use Rattle.decisions.specs.declared.Sum.{Sum}
@@ -141,11 +142,8 @@ answerOf code i st e =
     (cond (eqb (e .refusal) 0) (done (effectOf i e))
     (refused (e .refusal)))
 
-abbrev pub senderOf : Process → Signal → ℕ → Process
-senderOf p (Msg v) j = p
-senderOf p (Exit v b) j = p
-senderOf p Link j = linked p j
-senderOf p Unlink j = unlinked p j
+abbrev pub namedBy : Value → ℕ
+namedBy v = Option·getD (processIn v) 0
 
 abbrev pub sumOf : ℤ → Sum
 sumOf z = cond (fitsInt z) (record { fits = true; total = Int z }) (record { fits = false; total = intZero })

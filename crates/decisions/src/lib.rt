@@ -4,14 +4,15 @@ ghost use mathlib.Core.Bool.{false, not, _&&_};
 ghost use Prim.Native.Nat.{ℕ};
 ghost use lib.Dec.{eqb};
 ghost use lib.IntN.{_+ℤ_};
-ghost use Rattle.node.specs.declared.Signal.the-variants.{Msg, Exit, Link, Unlink};
-ghost use Rattle.node.specs.Processes.{register, moved, advanced, trapped, linked, unlinked, ended};
+ghost use Rattle.node.specs.declared.Signal.the-variants.{Msg, Exit, Link, Unlink, Monitor, Demonitor};
+ghost use Rattle.node.specs.Processes.{register, moved, advanced, trapped, linked, unlinked, watching, unwatching, ended};
+ghost use Rattle.node.specs.Sets.{lowestPeer};
 ghost use Rattle.node.specs.Values.{pid, normal, kill, badarg, sameValue};
 ghost use Rattle.rules.specs.Effects.{becomes, ends};
-ghost use Rattle.rules.specs.Run.{setsRegister, jumpsIf, integerIn, setsSum, adds, compares, sendsTo, toOther, spawns, closes, runsLive};
-ghost use Rattle.rules.specs.Arrive.{joinsWith, notes, exits, takes};
+ghost use Rattle.rules.specs.Run.{setsRegister, jumpsIf, integerIn, setsSum, adds, compares, sendsTo, toOther, spawns, closesTo, closes, runsLive};
+ghost use Rattle.rules.specs.Arrive.{joinsWith, notes, exits, downs, takes, isMonitor, answers};
 ghost use Rattle.rules.specs.Steps.{isUnborn};
-ghost use Rattle.decisions.specs.Answers.{refusing, becoming, searching, sendingTo, says, codeAt, senderOf};
+ghost use Rattle.decisions.specs.Answers.{refusing, becoming, searching, sendingTo, says, codeAt, namedBy};
 ghost use Rattle.decisions.specs.Answers.{ranOp, ran, arrived, sumOf, integersOf};
 ghost use Rattle.decisions.specs.Decided.{decidedOf, pairRefusal, birthRefusal};
 use actions::Decoded;
@@ -139,6 +140,9 @@ pub fn run_op(i: ProcessNumber, p: Process, op: Op) -> Decision
         12 => run_jump(p, op),
         13 => run_same(p, op),
         14 => run_less(p, op),
+        15 => run_stop(p, op),
+        16 => run_monitor(i, p, op),
+        17 => run_demonitor(i, p, op),
         _ => run_stop(p, op),
     }
 }
@@ -151,8 +155,8 @@ pub fn arrive(i: ProcessNumber, j: ProcessNumber, p: Process, count: u8, x: Sign
     match stage {
         Stage::Unborn => Decision::refuses(p, OWNER_UNBORN), // the signal waits in its row
         Stage::Live => take(i, j, p, count, x),
-        Stage::Closing => Decision::becomes(p),
-        Stage::Gone => Decision::becomes(p),
+        Stage::Closing => answer(j, p, x),
+        Stage::Gone => answer(j, p, x),
     }
 }
 
@@ -304,37 +308,36 @@ fn end_badarg(p: Process) -> Decision
     Decision::refuses(p.ended(Value::BADARG), 0)
 }
 
-// Process p once it sends x to j: link and unlink change its own links too.
-fn sender(p: Process, x: Signal, j: ProcessNumber) -> Process
-    ensures { λ r. ⌜ r ≡ senderOf p x (j .0) ⌝ }
+// The process that a value names; number 0 where it names none.
+fn named(v: Value) -> ProcessNumber
+    ensures { λ r. ⌜ r .0 ≡ namedBy v ⌝ }
 {
-    match x {
-        Signal::Msg(_) => p,
-        Signal::Exit(_, _) => p,
-        Signal::Link => p.linked(j),
-        Signal::Unlink => p.unlinked(j),
+    match v {
+        Value::Int(_) => ProcessNumber(0),
+        Value::Atom(_) => ProcessNumber(0),
+        Value::Pid(j) => j,
     }
 }
 
-// A signal to the process that v names; where it names none the process ends. Which values name a process is known here alone.
-fn send_to(p: Process, v: Value, x: Signal) -> Decision
-    ensures { λ e. ⌜ e ≡ says p 0 (λ st. sendsTo st v (senderOf p x) x) ⌝ }
+// A signal to the process that v names, which makes p `next`; where v names none p ends.
+fn send_to(p: Process, next: Process, v: Value, x: Signal) -> Decision
+    ensures { λ e. ⌜ e ≡ says p 0 (λ st. sendsTo st v (λ j. next) x) ⌝ }
 {
     match v {
         Value::Int(_) => end_badarg(p),
         Value::Atom(_) => end_badarg(p),
-        Value::Pid(j) => Decision::sends(sender(p, x, j).advanced(), j, x),
+        Value::Pid(j) => Decision::sends(next.advanced(), j, x),
     }
 }
 
 // The same, to another process; to process i itself nothing.
-fn send_to_other(i: ProcessNumber, p: Process, v: Value, x: Signal) -> Decision
-    ensures { λ e. ⌜ e ≡ says p 0 (λ st. toOther (i .0) st v (sendsTo st v (senderOf p x) x)) ⌝ }
+fn send_to_other(i: ProcessNumber, p: Process, next: Process, v: Value, x: Signal) -> Decision
+    ensures { λ e. ⌜ e ≡ says p 0 (λ st. toOther (i .0) st v (sendsTo st v (λ j. next) x)) ⌝ }
 {
     if same_value(v, Value::Pid(i)) {
         return Decision::becomes(p.advanced());
     }
-    send_to(p, v, x)
+    send_to(p, next, v, x)
 }
 
 fn run_send(p: Process, op: Op) -> Decision
@@ -342,7 +345,7 @@ fn run_send(p: Process, op: Op) -> Decision
 {
     let v = p.register(op.r);
     let w = p.register(op.s);
-    send_to(p, v, Signal::Msg(w))
+    send_to(p, p, v, Signal::Msg(w))
 }
 
 fn run_exit(p: Process, op: Op) -> Decision
@@ -350,21 +353,39 @@ fn run_exit(p: Process, op: Op) -> Decision
 {
     let v = p.register(op.r);
     let w = p.register(op.s);
-    send_to(p, v, Signal::Exit(w, false))
+    send_to(p, p, v, Signal::Exit(w, false))
 }
 
 fn run_link(i: ProcessNumber, p: Process, op: Op) -> Decision
     ensures { λ e. ⌜ e ≡ says p 0 (λ st. toOther (i .0) st (register p (op .r)) (sendsTo st (register p (op .r)) (linked p) Link)) ⌝ }
 {
     let v = p.register(op.r);
-    send_to_other(i, p, v, Signal::Link)
+    let next = p.linked(named(v));
+    send_to_other(i, p, next, v, Signal::Link)
 }
 
 fn run_unlink(i: ProcessNumber, p: Process, op: Op) -> Decision
     ensures { λ e. ⌜ e ≡ says p 0 (λ st. toOther (i .0) st (register p (op .r)) (sendsTo st (register p (op .r)) (unlinked p) Unlink)) ⌝ }
 {
     let v = p.register(op.r);
-    send_to_other(i, p, v, Signal::Unlink)
+    let next = p.unlinked(named(v));
+    send_to_other(i, p, next, v, Signal::Unlink)
+}
+
+fn run_monitor(i: ProcessNumber, p: Process, op: Op) -> Decision
+    ensures { λ e. ⌜ e ≡ says p 0 (λ st. toOther (i .0) st (register p (op .r)) (sendsTo st (register p (op .r)) (watching p) Monitor)) ⌝ }
+{
+    let v = p.register(op.r);
+    let next = p.watching(named(v));
+    send_to_other(i, p, next, v, Signal::Monitor)
+}
+
+fn run_demonitor(i: ProcessNumber, p: Process, op: Op) -> Decision
+    ensures { λ e. ⌜ e ≡ says p 0 (λ st. toOther (i .0) st (register p (op .r)) (sendsTo st (register p (op .r)) (unwatching p) Demonitor)) ⌝ }
+{
+    let v = p.register(op.r);
+    let next = p.unwatching(named(v));
+    send_to_other(i, p, next, v, Signal::Demonitor)
 }
 
 fn run_trap(p: Process, op: Op) -> Decision
@@ -466,17 +487,30 @@ fn run_stop(p: Process, op: Op) -> Decision
 
 // ---- a run
 
-// Tells the lowest link and drops it; without links the process is gone.
+// Tells the lowest link and drops it; without links the watchers are told.
 fn close(p: Process) -> Decision
     ensures { λ e. ⌜ e ≡ says p 0 closes ⌝ }
 {
     let links = p.links;
     let j = links.lowest();
     if j.0 == 0 {
-        return Decision::becomes(p.gone());
+        return close_unlinked(p);
     }
     let v = p.reason;
     Decision::sends(p.unlinked(j), j, Signal::Exit(v, true))
+}
+
+// Tells the lowest watcher and drops it; without watchers the process is gone.
+fn close_unlinked(p: Process) -> Decision
+    ensures { λ e. ⌜ e ≡ says p 0 (λ st. closesTo st 0 (lowestPeer (p .watchers))) ⌝ }
+{
+    let watchers = p.watchers;
+    let j = watchers.lowest();
+    if j.0 == 0 {
+        return Decision::becomes(p.gone());
+    }
+    let v = p.reason;
+    Decision::sends(p.unwatched(j), j, Signal::Down(v))
 }
 
 // A live process whose code has len ops, at op.
@@ -579,6 +613,47 @@ fn take(i: ProcessNumber, j: ProcessNumber, p: Process, count: u8, x: Signal) ->
         Signal::Exit(v, b) => exit(i, j, p, count, v, b),
         Signal::Link => Decision::becomes(p.linked(j)),
         Signal::Unlink => Decision::becomes(p.unlinked(j)),
+        Signal::Monitor => Decision::becomes(p.watched(j)),
+        Signal::Demonitor => Decision::becomes(p.unwatched(j)),
+        Signal::Down(v) => down(j, p, count, v),
+    }
+}
+
+// A down from j: it joins, and the watch is over. Where j is not watched it is dropped; on 24 the watch stays.
+fn down(j: ProcessNumber, p: Process, count: u8, v: Value) -> Decision
+    ensures { λ e. ⌜ e ≡ says p count (λ st. downs (j .0) st v) ⌝ }
+{
+    if !p.watches_over(j) {
+        return Decision::becomes(p);
+    }
+    if 16 <= count {
+        return Decision::refuses(p, MAILBOX_FULL);
+    }
+    join(p.unwatching(j), count, Message::Down(j, v))
+}
+
+// What an ended process does with a signal from j: a monitor is told that there is no such process, every other is dropped.
+fn answer(j: ProcessNumber, p: Process, x: Signal) -> Decision
+    ensures { λ e. ⌜ ((k : ℕ) → e ≡ says p k (λ st. answers (j .0) st x)) ⌝ }
+{
+    if is_monitor(x) {
+        let v = Value::NOPROC;
+        return Decision::sends(p, j, Signal::Down(v));
+    }
+    Decision::becomes(p)
+}
+
+fn is_monitor(x: Signal) -> bool
+    ensures { λ r. ⌜ r ≡ isMonitor x ⌝ }
+{
+    match x {
+        Signal::Msg(_) => false,
+        Signal::Exit(_, _) => false,
+        Signal::Link => false,
+        Signal::Unlink => false,
+        Signal::Monitor => true,
+        Signal::Demonitor => false,
+        Signal::Down(_) => false,
     }
 }
 

@@ -20,6 +20,6 @@ listingText v = eachFrom standingText 1 (v .processes) ++ eachFrom rowsText 1 (v
 unfoldable pub listingOf : Node → List ℕ
 listingOf n = listingText (view n)
 
--- 16 processes of at most 529 bytes and 256 pairs of at most 123: a buffer of this length holds the listing of every sound node
+-- 16 processes of at most 644 bytes and 256 pairs of at most 123: a buffer of this length holds the listing of every sound node
 abbrev pub longest : ℕ
-longest = 39952
+longest = 41792

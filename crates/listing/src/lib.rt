@@ -23,7 +23,7 @@ ghost use Rattle.listing.specs.Answers.{knownTold, knownShown, listTold,
 ghost use Rattle.listing.specs.Listing.{listingOf, longest};
 
 // No sound node has a longer listing (`longest`).
-const LONGEST: usize = 39952;
+const LONGEST: usize = 41792;
 
 // The refusal, 30 or 31, or 0 and the listing's length. With a refusal the length is 0.
 pub struct Listed {

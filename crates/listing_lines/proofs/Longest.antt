@@ -15,11 +15,11 @@ use borrow.Author.Tests.{leb-true, ltb-true}
 use lib.Dec.{leb, ltb}
 use lib.IntN.{pos, negsuc}
 use lib.ListN.{length, getD, length-append}
-use Rattle.node.specs.declared.Message.the-variants.{Plain, Note}
+use Rattle.node.specs.declared.Message.the-variants.{Plain, Note, Down as DownMessage}
 use Rattle.node.specs.declared.Message.{Message}
 use Rattle.node.specs.declared.Process.{Process}
 use Rattle.node.specs.declared.ProcessNumber.{ProcessNumber}
-use Rattle.node.specs.declared.Signal.the-variants.{Msg, Exit, Link, Unlink}
+use Rattle.node.specs.declared.Signal.the-variants.{Msg, Exit, Link, Unlink, Monitor, Demonitor, Down}
 use Rattle.node.specs.declared.Signal.{Signal}
 use Rattle.node.specs.declared.Stage.the-variants.{Unborn, Live, Closing, Gone}
 use Rattle.node.specs.declared.Stage.{Stage}
@@ -37,10 +37,10 @@ use Rattle.node.specs.Values.{numbers, isNumber, fitsInt, valueSound, messageSo
 use Rattle.text.proofs.Digits.{digits-length}
 use Rattle.text.specs.Values.{valueText, numberText}
 use Rattle.text.specs.Writing.{digits, intText, lineEnd, numberLine, each}
-use Rattle.listing_lines.specs.Lines.{comma, valueLine, eachFrom, flag, joinsIf, members, withCommas, setLine, registerLine, messageLine, mailOf, standingLines, standingText}
-use Rattle.listing_lines.specs.Lines.{signalLine, flightLine, pairText}
-use Rattle.listing_lines.specs.Words.{processKey, liveLine, closingLine, goneLine, behaviourKey, placeKey, trapKey, linksKey, reasonKey, mailKey, messageKey, noteKey, flightKey}
-use Rattle.listing_lines.specs.Words.{msgKey, exitKey, linkLine, unlinkLine}
+use Rattle.listing_lines.specs.Lines.{comma, valueLine, eachFrom, flag, joinsIf, members, withCommas, setLine, setLines, registerLine, senderLine, messageLine, mailOf}
+use Rattle.listing_lines.specs.Lines.{standingLines, standingText, signalLine, flightLine, pairText}
+use Rattle.listing_lines.specs.Words.{processKey, liveLine, closingLine, goneLine, behaviourKey, placeKey, trapKey, linksKey, watchesKey, watchersKey, reasonKey, mailKey, messageKey, noteKey}
+use Rattle.listing_lines.specs.Words.{downKey, flightKey, msgKey, exitKey, linkLine, unlinkLine, monitorLine, demonitorLine, downSignalKey}
 
 pub record Within (s : List ℕ) (k : ℕ) : Type 0 where
   pub most : length s ≤ k
@@ -136,12 +136,17 @@ unfolding setLine
 set-within key set = line-within key (commas-within (members set numbers) (members-within set numbers refl))
 
 -- ---- mailboxes
+sender-within : (key : List ℕ) (j : ProcessNumber) (v : Value) → So (isNumber (j .0) && valueSound v) → Within (senderLine key j v) (length key + 17)
+unfolding senderLine
+sender-within key j v h =
+    let t = parts (isNumber (j .0)) (valueSound v) h in
+    loosely (length key + 17) (omega arith) (exactly key ⊕ pid-within j (t .0) ⊕ exactly comma ⊕ value-within v (t .1) ⊕ exactly lineEnd)
+
 message-within : (m : Message) → So (messageSound m) → Within (messageLine m) 22
 unfolding messageLine
 message-within (Plain v) h = loosely 22 (omega arith) (valueLine-within messageKey v h)
-message-within (Note j v) h =
-    let t = parts (isNumber (j .0)) (valueSound v) h in
-    exactly noteKey ⊕ pid-within j (t .0) ⊕ exactly comma ⊕ value-within v (t .1) ⊕ exactly lineEnd
+message-within (Note j v) h = sender-within noteKey j v h
+message-within (DownMessage j v) h = sender-within downKey j v h
 
 mail-within : (ms : List Message) → length ms ≤ 16 → So (allOf messageSound ms) → Within (each messageLine ms) 352
 mail-within ms few h = loosely 352 (omega arith) (each-within messageLine messageSound 22 message-within ms h)
@@ -149,7 +154,7 @@ mail-within ms few h = loosely 352 (omega arith) (each-within messageLine messag
 -- ---- processes
 -- a live process with 16 notes in its mailbox
 abbrev pub longestProcess : ℕ
-longestProcess = 529
+longestProcess = 644
 
 register-within : (k : ℕ) → k < 10 → (v : Value) → So (valueSound v) → Within (registerLine k v) 16
 unfolding registerLine valueLine
@@ -169,7 +174,7 @@ module _ (codes : List (List Instruction)) (few : length codes ≤ 8) (checked :
 
   module _ (i : ℕ) (low : i < 100) (p : Process) (m : List Message) where
     live-within : Alive codes i p m → Within (standingText i (live (running p m))) longestProcess
-    unfolding standingText standingLines eachFrom
+    unfolding standingText standingLines setLines eachFrom
     live-within a =
         let b = behaviour-low (p .behaviour .0) (a .placed .known) in
         let t = place-low (p .behaviour .0) (p .place) (a .placed) in
@@ -182,7 +187,8 @@ module _ (codes : List (List Instruction)) (few : length codes ≤ 8) (checked :
         ⊕ (register-within 1 (omega arith) (p .r1) (v .v1)
         ⊕ (register-within 2 (omega arith) (p .r2) (v .v2)
         ⊕ (register-within 3 (omega arith) (p .r3) (v .v3) ⊕ exactly []))))
-        ⊕ numberLine-within trapKey (flag (p .trap)) (flag-within (p .trap)) ⊕ set-within linksKey (setOf (p .links))
+        ⊕ numberLine-within trapKey (flag (p .trap)) (flag-within (p .trap))
+        ⊕ (set-within linksKey (setOf (p .links)) ⊕ set-within watchesKey (setOf (p .watches)) ⊕ set-within watchersKey (setOf (p .watchers)))
         ⊕ numberLine-within mailKey (length m) (two-digits (length m) (omega arith))
         ⊕ mail-within m room (a .mailed .sound)
 
@@ -193,9 +199,11 @@ module _ (codes : List (List Instruction)) (few : length codes ≤ 8) (checked :
       stage-within Live e = live-within (alive codes i p m e h)
       stage-within Closing e =
           let g : So (standingSound codes i (standingIn Closing p m)) = subst (λ (s : Stage). So (standingSound codes i (standingIn s p m))) e h in
-          let t = parts (valueSound (p .reason)) (not (setOf (p .links) i)) g in
+          let w = parts (valueSound (p .reason) && not (setOf (p .links) i)) (not (setOf (p .watchers) i)) g in
+          let t = parts (valueSound (p .reason)) (not (setOf (p .links) i)) (w .0) in
           loosely longestProcess (omega arith)
-          (numberLine-within processKey i (two-digits i low) ⊕ exactly closingLine ⊕ valueLine-within reasonKey (p .reason) (t .0) ⊕ set-within linksKey (setOf (p .links)) ⊕ exactly [])
+          (numberLine-within processKey i (two-digits i low) ⊕ exactly closingLine ⊕ valueLine-within reasonKey (p .reason) (t .0) ⊕ set-within linksKey (setOf (p .links))
+          ⊕ set-within watchersKey (setOf (p .watchers)) ⊕ exactly [])
       stage-within Gone e = loosely longestProcess (omega arith) (numberLine-within processKey i (two-digits i low) ⊕ exactly goneLine ⊕ exactly [])
 
       pub standing-within : Within (standingText i (standing p m)) longestProcess
@@ -213,6 +221,9 @@ signal-within j i (Msg v) h = loosely 27 (omega arith) (valueLine-within msgKey 
 signal-within j i (Exit v b) h = exactly exitKey ⊕ value-within v h ⊕ exactly comma ⊕ flag-within b ⊕ exactly lineEnd
 signal-within j i Link h = loosely 27 (omega arith) (exactly linkLine)
 signal-within j i Unlink h = loosely 27 (omega arith) (exactly unlinkLine)
+signal-within j i Monitor h = loosely 27 (omega arith) (exactly monitorLine)
+signal-within j i Demonitor h = loosely 27 (omega arith) (exactly demonitorLine)
+signal-within j i (Down v) h = loosely 27 (omega arith) (valueLine-within downSignalKey v h)
 
 pub pair-within : (j i : ℕ) → j < 100 → i < 100 → (xs : List Signal) → So (rowSound j i xs) → Within (pairText j i xs) longestPair
 unfolding pairText flightLine rowSound

@@ -5,8 +5,9 @@
 --   flag b                0 or 1
 --   members set l         the numbers of l that a set has
 --   withCommas l          numbers with commas between them
---   setLine key set       a key and a set of processes
+--   setLine key set       a key and a set of processes;  setLines  the three sets of a live process
 --   registerLine k v      register k
+--   senderLine key j v    a sender with its reason
 --   messageLine m         a message
 --   mailOf s              the messages of a process that are listed
 --   standingLines i s n   the lines of process i up to its messages, n of which wait
@@ -18,9 +19,10 @@ use mathlib.Core.Bool.{Bool, true, false, cond}
 use mathlib.Core.List.{List, [], _∷_, _++_}
 use Prim.Native.Nat.{ℕ, _+_}
 use lib.ListN.{length}
-use Rattle.node.specs.declared.Message.the-variants.{Plain, Note}
+use Rattle.node.specs.declared.Message.the-variants.{Plain, Note, Down as DownMessage}
 use Rattle.node.specs.declared.Message.{Message}
-use Rattle.node.specs.declared.Signal.the-variants.{Msg, Exit, Link, Unlink}
+use Rattle.node.specs.declared.ProcessNumber.{ProcessNumber}
+use Rattle.node.specs.declared.Signal.the-variants.{Msg, Exit, Link, Unlink, Monitor, Demonitor, Down}
 use Rattle.node.specs.declared.Signal.{Signal}
 use Rattle.node.specs.declared.Value.the-variants.{Pid}
 use Rattle.node.specs.declared.Value.{Value}
@@ -29,8 +31,8 @@ use Rattle.rules.specs.Nodes.{Standing, unborn, live, closing, gone}
 use Rattle.node.specs.Values.{numbers}
 use Rattle.text.specs.Values.{valueText}
 use Rattle.text.specs.Writing.{digits, lineEnd, numberLine, each}
-use Rattle.listing_lines.specs.Words.{processKey, liveLine, closingLine, goneLine, behaviourKey, placeKey, trapKey, linksKey, reasonKey, mailKey, messageKey, noteKey, flightKey}
-use Rattle.listing_lines.specs.Words.{msgKey, exitKey, linkLine, unlinkLine}
+use Rattle.listing_lines.specs.Words.{processKey, liveLine, closingLine, goneLine, behaviourKey, placeKey, trapKey, linksKey, watchesKey, watchersKey, reasonKey, mailKey, messageKey, noteKey}
+use Rattle.listing_lines.specs.Words.{downKey, flightKey, msgKey, exitKey, linkLine, unlinkLine, monitorLine, demonitorLine, downSignalKey}
 
 abbrev pub comma : List ℕ
 comma = bytes ","
@@ -61,43 +63,55 @@ withCommas (j ∷ l) = digits j ++ each (λ (k : ℕ). comma ++ digits k) l
 unfoldable pub setLine : List ℕ → (ℕ → Bool) → List ℕ
 setLine key set = key ++ withCommas (members set numbers) ++ lineEnd
 
+-- "`watches=` and `watchers=` after a live process's links"
+unfoldable pub setLines : (ℕ → Bool) → (ℕ → Bool) → (ℕ → Bool) → List ℕ
+setLines links watches watchers = setLine linksKey links ++ setLine watchesKey watches ++ setLine watchersKey watchers
+
 -- r0= to r3=
 unfoldable pub registerLine : ℕ → Value → List ℕ
 registerLine k v = valueLine (bytes "r" ++ digits k ++ bytes "=") v
 
--- the sender of a note with its letter
+-- the sender with its letter
+unfoldable pub senderLine : List ℕ → ProcessNumber → Value → List ℕ
+senderLine key j v = key ++ valueText (Pid j) ++ comma ++ valueText v ++ lineEnd
+
 unfoldable pub messageLine : Message → List ℕ
 messageLine (Plain v) = valueLine messageKey v
-messageLine (Note j v) = noteKey ++ valueText (Pid j) ++ comma ++ valueText v ++ lineEnd
+messageLine (Note j v) = senderLine noteKey j v
+messageLine (DownMessage j v) = senderLine downKey j v
 
 -- only a live process holds messages
 abbrev pub mailOf : Standing → List Message
 mailOf unborn = []
 mailOf (live r) = r .mail
-mailOf (closing v links) = []
+mailOf (closing v links watchers) = []
 mailOf gone = []
 
--- "Closing has stage, reason, links; gone only stage"
+-- "Closing has stage, reason, links; gone only stage"; behind the links "`watchers=` after a closing one's"
 unfoldable pub standingLines : ℕ → Standing → ℕ → List ℕ
 standingLines i unborn n = []
 standingLines i (live r) n =
     numberLine processKey i ++ liveLine
     ++ numberLine behaviourKey (r .behaviour) ++ numberLine placeKey (r .place)
     ++ eachFrom registerLine 0 (r .registers)
-    ++ numberLine trapKey (flag (r .trap)) ++ setLine linksKey (r .links) ++ numberLine mailKey n
-standingLines i (closing v links) n = numberLine processKey i ++ closingLine ++ valueLine reasonKey v ++ setLine linksKey links
+    ++ numberLine trapKey (flag (r .trap)) ++ setLines (r .links) (r .watches) (r .watchers) ++ numberLine mailKey n
+standingLines i (closing v links watchers) n =
+    numberLine processKey i ++ closingLine ++ valueLine reasonKey v ++ setLine linksKey links ++ setLine watchersKey watchers
 standingLines i gone n = numberLine processKey i ++ goneLine
 
--- "`mail=n` is followed by n lines `message=V` or `note=p,V`"
+-- "`mail=n` is followed by n lines `message=V` or `note=p,V`", or `down=p,V`
 unfoldable pub standingText : ℕ → Standing → List ℕ
 standingText i s = standingLines i s (length (mailOf s)) ++ each messageLine (mailOf s)
 
--- "`signal=msg,V`, `signal=exit,V,b`, `signal=link`, `signal=unlink`"
+-- "`signal=msg,V`, `signal=exit,V,b`, `signal=link`, `signal=unlink`", "`signal=monitor`, `signal=demonitor`, and `signal=down,V`"
 unfoldable pub signalLine : Signal → List ℕ
 signalLine (Msg v) = valueLine msgKey v
 signalLine (Exit v b) = exitKey ++ valueText v ++ comma ++ digits (flag b) ++ lineEnd
 signalLine Link = linkLine
 signalLine Unlink = unlinkLine
+signalLine Monitor = monitorLine
+signalLine Demonitor = demonitorLine
+signalLine (Down v) = valueLine downSignalKey v
 
 -- "A pair: `flight=from,to,n`"
 unfoldable pub flightLine : ℕ → ℕ → ℕ → List ℕ

@@ -27,6 +27,12 @@ trapKey = bytes "trap="
 abbrev pub linksKey : List ℕ
 linksKey = bytes "links="
 
+abbrev pub watchesKey : List ℕ
+watchesKey = bytes "watches="
+
+abbrev pub watchersKey : List ℕ
+watchersKey = bytes "watchers="
+
 abbrev pub reasonKey : List ℕ
 reasonKey = bytes "reason="
 
@@ -38,6 +44,9 @@ messageKey = bytes "message="
 
 abbrev pub noteKey : List ℕ
 noteKey = bytes "note="
+
+abbrev pub downKey : List ℕ
+downKey = bytes "down="
 
 abbrev pub flightKey : List ℕ
 flightKey = bytes "flight="
@@ -53,3 +62,12 @@ linkLine = bytes "signal=link\n"
 
 abbrev pub unlinkLine : List ℕ
 unlinkLine = bytes "signal=unlink\n"
+
+abbrev pub monitorLine : List ℕ
+monitorLine = bytes "signal=monitor\n"
+
+abbrev pub demonitorLine : List ℕ
+demonitorLine = bytes "signal=demonitor\n"
+
+abbrev pub downSignalKey : List ℕ
+downSignalKey = bytes "signal=down,"

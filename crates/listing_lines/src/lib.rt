@@ -18,7 +18,8 @@ ghost use mathlib.Core.Path.{_≡_};
 ghost use Rattle.rules.specs.Nodes.{setOf, running, live, closing, gone, standing};
 ghost use Rattle.node.specs.Values.{numbers};
 ghost use Rattle.text.specs.Writing.{Wrote, digits};
-ghost use Rattle.listing_lines.specs.Lines.{comma, valueLine, eachFrom, flag, members, withCommas, setLine, registerLine, messageLine, standingLines, signalLine, flightLine};
+ghost use Rattle.listing_lines.specs.Lines.{comma, valueLine, eachFrom, flag, members, withCommas, setLine, setLines, registerLine};
+ghost use Rattle.listing_lines.specs.Lines.{senderLine, messageLine, standingLines, signalLine, flightLine};
 
 // The lines of process i, for which `waiting` messages wait, up to and without them; an unborn process has no text.
 pub fn put_process(out: &mut [u8], at: usize, i: ProcessNumber, p: Process, waiting: u8) -> usize
@@ -38,7 +39,8 @@ pub fn put_message(out: &mut [u8], at: usize, m: Message) -> usize
 {
     match m {
         Message::Plain(v) => put_value_line(out, at, b"message=", v),
-        Message::Note(j, v) => put_note(out, at, j, v),
+        Message::Note(j, v) => put_sender(out, at, b"note=", j, v),
+        Message::Down(j, v) => put_sender(out, at, b"down=", j, v),
     }
 }
 
@@ -63,6 +65,9 @@ pub fn put_signal(out: &mut [u8], at: usize, x: Signal) -> usize
         Signal::Exit(v, b) => put_exit(out, at, v, b),
         Signal::Link => put_bytes(out, at, b"signal=link\n"),
         Signal::Unlink => put_bytes(out, at, b"signal=unlink\n"),
+        Signal::Monitor => put_bytes(out, at, b"signal=monitor\n"),
+        Signal::Demonitor => put_bytes(out, at, b"signal=demonitor\n"),
+        Signal::Down(v) => put_value_line(out, at, b"signal=down,", v),
     }
 }
 
@@ -75,20 +80,33 @@ fn put_live(out: &mut [u8], at: usize, i: ProcessNumber, p: Process, waiting: u8
     let e = put_number_line(out, e, b"place=", p.place as u64);
     let e = put_registers(out, e, p);
     let e = put_number_line(out, e, b"trap=", flag(p.trap));
-    let links = p.links;
-    let e = put_set(out, e, b"links=", links);
+    let e = put_sets(out, e, p);
     put_number_line(out, e, b"mail=", waiting as u64)
 }
 
+// The sets of a live process.
+fn put_sets(out: &mut [u8], at: usize, p: Process) -> usize
+    ensures { λ e. ⌜ Wrote (now (out .entry)) at (setLines (setOf (p .links)) (setOf (p .watches)) (setOf (p .watchers))) (now (out .exit)) e ⌝ }
+{
+    let links = p.links;
+    let watches = p.watches;
+    let watchers = p.watchers;
+    let e = put_set(out, at, b"links=", links);
+    let e = put_set(out, e, b"watches=", watches);
+    put_set(out, e, b"watchers=", watchers)
+}
+
 fn put_closing(out: &mut [u8], at: usize, i: ProcessNumber, p: Process) -> usize
-    ensures { λ e. ⌜ Wrote (now (out .entry)) at (standingLines (i .0) (closing (p .reason) (setOf (p .links))) 0) (now (out .exit)) e ⌝ }
+    ensures { λ e. ⌜ Wrote (now (out .entry)) at (standingLines (i .0) (closing (p .reason) (setOf (p .links)) (setOf (p .watchers))) 0) (now (out .exit)) e ⌝ }
 {
     let reason = p.reason;
     let links = p.links;
+    let watchers = p.watchers;
     let e = put_number_line(out, at, b"process=", i.0 as u64);
     let e = put_bytes(out, e, b"stage=closing\n");
     let e = put_value_line(out, e, b"reason=", reason);
-    put_set(out, e, b"links=", links)
+    let e = put_set(out, e, b"links=", links);
+    put_set(out, e, b"watchers=", watchers)
 }
 
 fn put_gone(out: &mut [u8], at: usize, i: ProcessNumber) -> usize
@@ -150,10 +168,11 @@ fn put_member(out: &mut [u8], at: usize, there: bool, later: bool, j: ProcessNum
     at
 }
 
-fn put_note(out: &mut [u8], at: usize, j: ProcessNumber, v: Value) -> usize
-    ensures { λ e. ⌜ Wrote (now (out .entry)) at (messageLine (Message.Note j v)) (now (out .exit)) e ⌝ }
+// A key, a sender and its reason.
+fn put_sender(out: &mut [u8], at: usize, key: &[u8], j: ProcessNumber, v: Value) -> usize
+    ensures { λ e. ⌜ Wrote (now (out .entry)) at (senderLine (now (key .entry)) j v) (now (out .exit)) e ⌝ }
 {
-    let e = put_bytes(out, at, b"note=");
+    let e = put_bytes(out, at, key);
     let e = put_value(out, e, Value::Pid(j));
     let e = put_byte(out, e, b',');
     let e = put_value(out, e, v);

@@ -4,7 +4,6 @@
 --   mailShelf n      the mailboxes of n, a block of 16 slots to a process
 --   flightShelf n    its signals in flight, a block of 4 cells to a pair
 --   blankNode        the node of a refused load
-use mathlib.Core.Bool.{false}
 use mathlib.Core.List.{[], _∷_}
 use Prim.Native.Nat.{ℕ, _+_, _-_, _*_}
 use lib.ListN.{replicate}
@@ -13,20 +12,18 @@ use Rattle.node.specs.declared.Node.{Node}
 use Rattle.node.specs.declared.Op.{Op}
 use Rattle.node.specs.declared.Process.{Process}
 use Rattle.node.specs.declared.Slot.{Slot}
-use Rattle.node.specs.declared.Stage.the-variants.{Unborn}
 use Rattle.node.specs.Blocks.{Shelf}
 use Rattle.node.specs.Mailboxes.{noMessage}
 use Rattle.node.specs.Ops.{stopOp}
 use Rattle.node.specs.Processes.{unborn}
 use Rattle.node.specs.Rows.{noSignal}
-use Rattle.node.specs.Sets.{noPeers}
 use Rattle.node.specs.Values.{intZero}
 
 abbrev pub noOp : Op
 noOp = record { number = 0; r = 0; s = 0; target = 0; small = 0; value = intZero; process = record { 0 = 0 }; behaviour = record { 0 = 0 } }
 
 abbrev pub noProcess : Process
-noProcess = record { stage = Unborn; behaviour = record { 0 = 0 }; place = 0; r0 = intZero; r1 = intZero; r2 = intZero; r3 = intZero; trap = false; links = noPeers; reason = intZero }
+noProcess = unborn
 
 abbrev pub pair : ℕ → ℕ → ℕ
 pair j i = 16 * (j - 1) + (i - 1)

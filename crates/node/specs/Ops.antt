@@ -67,6 +67,8 @@ opForms =
     ∷ form "same" (RegisterR ∷ ValueV ∷ PlaceT ∷ [])
     ∷ form "less" (RegisterR ∷ RegisterS ∷ PlaceT ∷ [])
     ∷ form "stop" (RegisterR ∷ [])
+    ∷ form "monitor" (RegisterR ∷ [])
+    ∷ form "demonitor" (RegisterR ∷ [])
     ∷ []
 
 abbrev pub opCount : ℕ

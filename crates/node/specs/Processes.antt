@@ -9,7 +9,13 @@
 --   linksTo p j        j is in the link set
 --   linked p j         j joins the link set
 --   unlinked p j       j leaves the link set
---   ended p v          the process ends with reason v, and is closing; its links are unchanged
+--   watchesOver p j    j is in the set of those that the process watches (monitors)
+--   watching p j       j joins that set
+--   unwatching p j     j leaves it
+--   watchedBy p j      j is in the set of the process's watchers
+--   watched p j        j joins that set
+--   unwatched p j      j leaves it
+--   ended p v          the process ends with reason v, and is closing; its links and watchers are unchanged
 --   gone p             the process is gone
 --   mailCount s n      how many of the n messages that its mailbox counts a process in stage s holds
 -- A number that is no register is read as 3, which does not occur in a sound node.
@@ -26,27 +32,114 @@ use Rattle.node.specs.Sets.{noPeers, has, withPeer, withoutPeer}
 use Rattle.node.specs.Values.{intZero}
 
 abbrev pub unborn : Process
-unborn = record { stage = Unborn; behaviour = record { 0 = 0 }; place = 0; r0 = intZero; r1 = intZero; r2 = intZero; r3 = intZero; trap = false; links = noPeers; reason = intZero }
+unborn = record {
+  stage = Unborn;
+  behaviour = record { 0 = 0 };
+  place = 0;
+  trap = false;
+  r0 = intZero;
+  r1 = intZero;
+  r2 = intZero;
+  r3 = intZero;
+  links = noPeers;
+  watches = noPeers;
+  watchers = noPeers;
+  reason = intZero;
+}
 
 -- "place 0, its r0 the spawner's number, other registers i0, no links, trap 0"
 abbrev pub fresh : BehaviourNumber → Value → Process
-fresh b v = record { stage = Live; behaviour = b; place = 0; r0 = v; r1 = intZero; r2 = intZero; r3 = intZero; trap = false; links = noPeers; reason = intZero }
+fresh b v = record { stage = Live; behaviour = b; place = 0; r0 = v; r1 = intZero; r2 = intZero; r3 = intZero; trap = false; links = noPeers; watches = noPeers; watchers = noPeers; reason = intZero }
 
 -- one field anew, the others as they are
 abbrev pub withPlace : Process → ℕ → Process
-withPlace p t = record { stage = p .stage; behaviour = p .behaviour; place = t; r0 = p .r0; r1 = p .r1; r2 = p .r2; r3 = p .r3; trap = p .trap; links = p .links; reason = p .reason }
+withPlace p t = record {
+  stage = p .stage;
+  behaviour = p .behaviour;
+  place = t;
+  trap = p .trap;
+  r0 = p .r0;
+  r1 = p .r1;
+  r2 = p .r2;
+  r3 = p .r3;
+  links = p .links;
+  watches = p .watches;
+  watchers = p .watchers;
+  reason = p .reason;
+}
 
 abbrev pub withRegisters : Process → Value → Value → Value → Value → Process
-withRegisters p a b c d = record { stage = p .stage; behaviour = p .behaviour; place = p .place; r0 = a; r1 = b; r2 = c; r3 = d; trap = p .trap; links = p .links; reason = p .reason }
+withRegisters p a b c d = record {
+  stage = p .stage;
+  behaviour = p .behaviour;
+  place = p .place;
+  trap = p .trap;
+  r0 = a;
+  r1 = b;
+  r2 = c;
+  r3 = d;
+  links = p .links;
+  watches = p .watches;
+  watchers = p .watchers;
+  reason = p .reason;
+}
 
 abbrev pub withTrap : Process → Bool → Process
-withTrap p f = record { stage = p .stage; behaviour = p .behaviour; place = p .place; r0 = p .r0; r1 = p .r1; r2 = p .r2; r3 = p .r3; trap = f; links = p .links; reason = p .reason }
+withTrap p f = record {
+  stage = p .stage;
+  behaviour = p .behaviour;
+  place = p .place;
+  trap = f;
+  r0 = p .r0;
+  r1 = p .r1;
+  r2 = p .r2;
+  r3 = p .r3;
+  links = p .links;
+  watches = p .watches;
+  watchers = p .watchers;
+  reason = p .reason;
+}
+
+abbrev pub withSets : Process → Peers → Peers → Peers → Process
+withSets p links watches watchers = record {
+  stage = p .stage;
+  behaviour = p .behaviour;
+  place = p .place;
+  trap = p .trap;
+  r0 = p .r0;
+  r1 = p .r1;
+  r2 = p .r2;
+  r3 = p .r3;
+  links = links;
+  watches = watches;
+  watchers = watchers;
+  reason = p .reason;
+}
 
 abbrev pub withLinks : Process → Peers → Process
-withLinks p l = record { stage = p .stage; behaviour = p .behaviour; place = p .place; r0 = p .r0; r1 = p .r1; r2 = p .r2; r3 = p .r3; trap = p .trap; links = l; reason = p .reason }
+withLinks p l = withSets p l (p .watches) (p .watchers)
+
+abbrev pub withWatches : Process → Peers → Process
+withWatches p l = withSets p (p .links) l (p .watchers)
+
+abbrev pub withWatchers : Process → Peers → Process
+withWatchers p l = withSets p (p .links) (p .watches) l
 
 abbrev pub withStage : Process → Stage → Value → Process
-withStage p s v = record { stage = s; behaviour = p .behaviour; place = p .place; r0 = p .r0; r1 = p .r1; r2 = p .r2; r3 = p .r3; trap = p .trap; links = p .links; reason = v }
+withStage p s v = record {
+  stage = s;
+  behaviour = p .behaviour;
+  place = p .place;
+  trap = p .trap;
+  r0 = p .r0;
+  r1 = p .r1;
+  r2 = p .r2;
+  r3 = p .r3;
+  links = p .links;
+  watches = p .watches;
+  watchers = p .watchers;
+  reason = v;
+}
 
 unfoldable pub register : Process → ℕ → Value
 register p r = cond (eqb r 0) (p .r0) (cond (eqb r 1) (p .r1) (cond (eqb r 2) (p .r2) (p .r3)))
@@ -76,6 +169,24 @@ linked p j = withLinks p (withPeer (p .links) j)
 
 unfoldable pub unlinked : Process → ℕ → Process
 unlinked p j = withLinks p (withoutPeer (p .links) j)
+
+unfoldable pub watchesOver : Process → ℕ → Bool
+watchesOver p j = has (p .watches) j
+
+unfoldable pub watching : Process → ℕ → Process
+watching p j = withWatches p (withPeer (p .watches) j)
+
+unfoldable pub unwatching : Process → ℕ → Process
+unwatching p j = withWatches p (withoutPeer (p .watches) j)
+
+unfoldable pub watchedBy : Process → ℕ → Bool
+watchedBy p j = has (p .watchers) j
+
+unfoldable pub watched : Process → ℕ → Process
+watched p j = withWatchers p (withPeer (p .watchers) j)
+
+unfoldable pub unwatched : Process → ℕ → Process
+unwatched p j = withWatchers p (withoutPeer (p .watchers) j)
 
 unfoldable pub ended : Process → Value → Process
 ended p v = withStage p Closing v

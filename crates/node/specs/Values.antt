@@ -1,10 +1,10 @@
 -- Values and messages (document 01, "The node"): their kinds, their limits, and when two values are equal.
 --   intZero                              i0, the content of a fresh register
---   normal kill killed badarg badarith   the atoms a0 to a4
+--   normal kill killed badarg badarith noproc   the atoms a0 to a5
 --   pid i                                the value that holds process number i
 --   numbers isNumber i                   the process numbers, 1 to 16; i is one of them
 --   least greatest fitsInt z             the limits of an integer `i`; z is within them
---   valueSound v messageSound m          v keeps its limits; so do the values of a message, and a note's sender
+--   valueSound v messageSound m          v keeps its limits; so do the values of a message, and the sender of a note or a down
 --   exactKind anyKind intKind ..         the kinds of a clause, by number: one exact value, every message, then the kinds of messages
 --   lastKind                             the last of them
 --   kindOf v messageKind m               the kind of a value, and of a message
@@ -17,7 +17,7 @@ use lib.Dec.{leb, eqb}
 use lib.IntN.{ℤ, pos, negsuc}
 use lib.Signed.{leZ}
 use Rattle.node.specs.declared.Message.{Message}
-use Rattle.node.specs.declared.Message.the-variants.{Plain, Note}
+use Rattle.node.specs.declared.Message.the-variants.{Plain, Note, Down}
 use Rattle.node.specs.declared.Value.{Value}
 use Rattle.node.specs.declared.Value.the-variants.{Int, Atom, Pid}
 use Rattle.node.specs.Lists.{rising}
@@ -39,6 +39,9 @@ badarg = Atom 3
 
 abbrev pub badarith : Value
 badarith = Atom 4
+
+abbrev pub noproc : Value
+noproc = Atom 5
 
 abbrev pub pid : ℕ → Value
 pid i = Pid (record { 0 = i })
@@ -68,10 +71,11 @@ valueSound (Pid j) = isNumber (j .0)
 abbrev pub messageSound : Message → Bool
 messageSound (Plain v) = valueSound v
 messageSound (Note j v) = isNumber (j .0) && valueSound v
+messageSound (Down j v) = isNumber (j .0) && valueSound v
 
 -- ---- kinds
 
--- "k is any (notes too), int, atom, pid, note or one exact V": the exact value has the first number, so that a new kind moves none
+-- "k is any (notes too), int, atom, pid, note or one exact V", and down: the exact value has the first number, so that a new kind moves none
 abbrev pub exactKind : ℕ
 exactKind = 0
 
@@ -90,8 +94,11 @@ pidKind = 4
 abbrev pub noteKind : ℕ
 noteKind = 5
 
+abbrev pub downKind : ℕ
+downKind = 6
+
 abbrev pub lastKind : ℕ
-lastKind = noteKind
+lastKind = downKind
 
 abbrev pub kindOf : Value → ℕ
 kindOf (Int z) = intKind
@@ -101,6 +108,7 @@ kindOf (Pid j) = pidKind
 abbrev pub messageKind : Message → ℕ
 messageKind (Plain v) = kindOf v
 messageKind (Note j v) = noteKind
+messageKind (Down j v) = downKind
 
 abbrev pub numberIn : Value → ℤ
 numberIn (Int z) = z

@@ -8,6 +8,7 @@ ghost use lib.ListN.{getD};
 ghost use Rattle.node.specs.declared.OperandKind.the-variants.{NoOperand};
 ghost use Rattle.node.specs.Ops.{kindsIn, kindsOf, operandCounts, operandKind, stopOp};
 ghost use Rattle.node.specs.Processes.{unborn, fresh, register, withRegister, moved, advanced, trapped, linksTo, linked, unlinked, ended, gone, mailCount, withRegisters, withLinks, withStage};
+ghost use Rattle.node.specs.Processes.{watchesOver, watching, unwatching, watchedBy, watched, unwatched, withWatches, withWatchers};
 ghost use Rattle.node.specs.Values.{isNumber, valueSound, kindOf, messageKind, numberIn, sameValue};
 ghost use Rattle.node.specs.Sets.{noPeers, has, withPeer, withoutPeer, lowestPeer};
 ghost use Rattle.node.specs.Mailboxes.{noMessage};
@@ -37,6 +38,8 @@ impl Value {
     pub const BADARG: Value = Value::Atom(3);
 
     pub const BADARITH: Value = Value::Atom(4);
+
+    pub const NOPROC: Value = Value::Atom(5);
     // i0, the content of a fresh register.
     pub const ZERO: Value = Value::Int(0);
 
@@ -62,10 +65,11 @@ impl Value {
     }
 }
 
-// A message in a mailbox: a plain value, or a note (the field's 'EXIT' message) with its sender and the exit reason.
+// A message in a mailbox: a plain value, or, with its sender and the exit reason, a note (the field's 'EXIT' message) or a down (its 'DOWN').
 pub enum Message {
     Plain(Value),
     Note(ProcessNumber, Value),
+    Down(ProcessNumber, Value),
 }
 
 impl Message {
@@ -75,6 +79,7 @@ impl Message {
         match self {
             Message::Plain(v) => v.kind(),
             Message::Note(_, _) => NOTE,
+            Message::Down(_, _) => DOWN,
         }
     }
 }
@@ -85,6 +90,9 @@ pub enum Signal {
     Exit(Value, bool),
     Link,
     Unlink,
+    Monitor,
+    Demonitor,
+    Down(Value),
 }
 
 // An op (instruction) by its number in document 01's table; the fields that it does not have as operands are not read. The value stands
@@ -134,7 +142,7 @@ pub enum Shape {
 // A set of processes as one number: process k + 1 is in it where bit k is set.
 pub struct Peers(pub u16);
 
-// Closing is an exiting process that has still to tell its links.
+// Closing is an exiting process that has still to tell its links and its watchers.
 pub enum Stage {
     Unborn,
     Live,
@@ -155,6 +163,9 @@ pub struct Process {
     pub r2: Value,
     pub r3: Value,
     pub links: Peers,
+    // Those that it monitors, and those that monitor it.
+    pub watches: Peers,
+    pub watchers: Peers,
     pub reason: Value,
 }
 
@@ -213,7 +224,7 @@ pub const NOT_SOUND: u8 = 31;
 pub const SCHEDULE_TOO_LONG: u8 = 32;
 
 // The number of ops, and the numbers of those that others look for.
-pub const OPS: u8 = 16;
+pub const OPS: u8 = 18;
 
 pub const RECV: u8 = 10;
 
@@ -233,14 +244,16 @@ pub const PID: u8 = 4;
 
 pub const NOTE: u8 = 5;
 
+pub const DOWN: u8 = 6;
+
 // The last of them.
-pub const LAST_KIND: u8 = NOTE;
+pub const LAST_KIND: u8 = DOWN;
 
 // How many operands each op has, by its number.
-const OPERANDS: [u8; 16] = [2, 2, 1, 2, 2, 2, 1, 1, 1, 3, 1, 4, 1, 3, 3, 1];
+const OPERANDS: [u8; 18] = [2, 2, 1, 2, 2, 2, 1, 1, 1, 3, 1, 4, 1, 3, 3, 1, 1, 1];
 
 // The shape of each op, by its number.
-const SHAPES: [Shape; 16] = [
+const SHAPES: [Shape; 18] = [
     Shape::RV, // set
     Shape::RS, // copy
     Shape::R, // self
@@ -257,6 +270,8 @@ const SHAPES: [Shape; 16] = [
     Shape::RVT, // same
     Shape::RST, // less
     Shape::R, // stop
+    Shape::R, // monitor
+    Shape::R, // demonitor
 ];
 
 // The number of operands of an op; 0 for a number that is no op.
@@ -496,6 +511,7 @@ impl Process {
     pub fn unborn() -> Process
         ensures { λ r. ⌜ r ≡ unborn ⌝ }
     {
+        let none = Peers::none();
         Process {
             stage: Stage::Unborn,
             behaviour: BehaviourNumber(0),
@@ -505,7 +521,9 @@ impl Process {
             r2: Value::ZERO,
             r3: Value::ZERO,
             trap: false,
-            links: Peers::none(),
+            links: none,
+            watches: none,
+            watchers: none,
             reason: Value::ZERO,
         }
     }
@@ -514,6 +532,7 @@ impl Process {
     pub fn fresh(b: BehaviourNumber, first: Value) -> Process
         ensures { λ r. ⌜ r ≡ fresh b first ⌝ }
     {
+        let none = Peers::none();
         Process {
             stage: Stage::Live,
             behaviour: b,
@@ -523,7 +542,9 @@ impl Process {
             r2: Value::ZERO,
             r3: Value::ZERO,
             trap: false,
-            links: Peers::none(),
+            links: none,
+            watches: none,
+            watchers: none,
             reason: Value::ZERO,
         }
     }
@@ -547,6 +568,8 @@ impl Process {
         let stage = self.stage;
         let behaviour = self.behaviour;
         let links = self.links;
+        let watches = self.watches;
+        let watchers = self.watchers;
         let reason = self.reason;
         Process {
             stage: stage,
@@ -558,6 +581,8 @@ impl Process {
             r3: d,
             trap: self.trap,
             links: links,
+            watches: watches,
+            watchers: watchers,
             reason: reason,
         }
     }
@@ -628,7 +653,69 @@ impl Process {
         self
     }
 
-    // The process ends with reason v: it is closing, and its links are unchanged.
+    // Whether j is watched.
+    pub fn watches_over(self, j: ProcessNumber) -> bool
+        ensures { λ r. ⌜ r ≡ watchesOver self (j .0) ⌝ }
+    {
+        let watches = self.watches;
+        watches.has(j)
+    }
+
+    // The process begins to watch j.
+    pub fn watching(self, j: ProcessNumber) -> Process
+        ensures { λ p. ⌜ p ≡ watching self (j .0) ⌝ }
+    {
+        let watches = self.watches;
+        self.with_watches(watches.with(j))
+    }
+
+    // The watch on j is over.
+    pub fn unwatching(self, j: ProcessNumber) -> Process
+        ensures { λ p. ⌜ p ≡ unwatching self (j .0) ⌝ }
+    {
+        let watches = self.watches;
+        self.with_watches(watches.without(j))
+    }
+
+    fn with_watches(mut self, watches: Peers) -> Process
+        ensures { λ p. ⌜ p ≡ withWatches self watches ⌝ }
+    {
+        self.watches = watches;
+        self
+    }
+
+    // Whether j is a watcher.
+    pub fn watched_by(self, j: ProcessNumber) -> bool
+        ensures { λ r. ⌜ r ≡ watchedBy self (j .0) ⌝ }
+    {
+        let watchers = self.watchers;
+        watchers.has(j)
+    }
+
+    // j becomes a watcher.
+    pub fn watched(self, j: ProcessNumber) -> Process
+        ensures { λ p. ⌜ p ≡ watched self (j .0) ⌝ }
+    {
+        let watchers = self.watchers;
+        self.with_watchers(watchers.with(j))
+    }
+
+    // j is a watcher no longer.
+    pub fn unwatched(self, j: ProcessNumber) -> Process
+        ensures { λ p. ⌜ p ≡ unwatched self (j .0) ⌝ }
+    {
+        let watchers = self.watchers;
+        self.with_watchers(watchers.without(j))
+    }
+
+    fn with_watchers(mut self, watchers: Peers) -> Process
+        ensures { λ p. ⌜ p ≡ withWatchers self watchers ⌝ }
+    {
+        self.watchers = watchers;
+        self
+    }
+
+    // The process ends with reason v: it is closing, its links and watchers unchanged.
     pub fn ended(self, v: Value) -> Process
         ensures { λ p. ⌜ p ≡ ended self v ⌝ }
     {
@@ -664,6 +751,8 @@ impl Process {
         let c = self.r2;
         let d = self.r3;
         let links = self.links;
+        let watches = self.watches;
+        let watchers = self.watchers;
         Process {
             stage: s,
             behaviour: behaviour,
@@ -674,6 +763,8 @@ impl Process {
             r3: d,
             trap: self.trap,
             links: links,
+            watches: watches,
+            watchers: watchers,
             reason: v,
         }
     }

@@ -14,7 +14,7 @@ const PLAN: usize = 16385;
 const STEPS: usize = 61441;
 
 // No answer is longer (`longestAnswer`).
-const OUTPUT: usize = 40960;
+const OUTPUT: usize = 45056;
 
 fn main() {
     let mut plan = [0u8; PLAN];

@@ -21,25 +21,23 @@ use Rattle.text.specs.Parts.{placeFrom, fieldsOf, indexOf}
 use Rattle.plan_line.specs.declared.Coded.{Coded}
 use Rattle.plan_line.specs.declared.ReadOperand.{ReadOperand}
 use Rattle.plan_line.specs.Ops.{behindField, clauseWords, operandOf, withJoined, operandsOf, bare, noCode, opOf, codedOf}
-use Rattle.words.specs.Words.{packed, PackedAs, placeOf}
+use Rattle.words.specs.Words.{isWord, packed, wordNumber, placeOf}
 use Rattle.plan_line.proofs.Fields.{behind-first}
-use Rattle.words.proofs.Words.{isShort, index-place}
+use Rattle.words.proofs.Words.{index-place}
 
 -- ---- words, looked up by their numbers
-ops-short : So (allOf isShort opWords)
-unfolding packed
-ops-short = refl
+ops-words : So (allOf isWord opWords)
+ops-words = refl
 
-kinds-short : So (allOf isShort clauseWords)
-unfolding packed
-kinds-short = refl
+kinds-words : So (allOf isWord clauseWords)
+kinds-words = refl
 
-module _ (w : List ℕ) {r k : ℕ} (x : PackedAs w r) where
+module _ (w : List ℕ) {r k : ℕ} (x : r ≡ wordNumber w) where
   pub op-place : k ≡ placeOf r (map packed opWords) → k ≡ indexOf w opWords
-  op-place e = e ∙ index-place w x opWords ops-short
+  op-place e = e ∙ index-place w x opWords ops-words
 
   pub kind-place : k ≡ placeOf r (map packed clauseWords) → k ≡ indexOf w clauseWords
-  kind-place e = e ∙ index-place w x clauseWords kinds-short
+  kind-place e = e ∙ index-place w x clauseWords kinds-words
 
 -- ---- the loop over the operands: what is left of their kinds and of the fields
 module _ (c n : ℕ) where

@@ -41,9 +41,9 @@ use Rattle.plan_line.specs.declared.ReadOperand.{ReadOperand}
 unfoldable pub worse : ℕ → ℕ → ℕ
 worse j k = cond (eqb j 0) k (cond (eqb k malformed) malformed j)
 
--- "k is any (notes too), int, atom, pid, note or one exact V"
+-- "k is any (notes too), int, atom, pid, note or one exact V", and down
 abbrev pub clauseWords : List (List ℕ)
-clauseWords = bytes "any" ∷ bytes "int" ∷ bytes "atom" ∷ bytes "pid" ∷ bytes "note" ∷ []
+clauseWords = bytes "any" ∷ bytes "int" ∷ bytes "atom" ∷ bytes "pid" ∷ bytes "note" ∷ bytes "down" ∷ []
 
 abbrev pub numeric : Ranged → ReadOperand
 numeric x = record { refusal = x .refusal; number = x .number; value = intZero }

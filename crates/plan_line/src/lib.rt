@@ -25,32 +25,35 @@ ghost use Rattle.plan_line.specs.Lines.{headerTold, countTold, opTold, s
 const NOT_RISING: u8 = 13;
 
 // The words of the ops, in their order, as `words::word_code` gives them.
-const OP_WORDS: [u64; 16] = [
-    0x0174_6573, // set
-    0x01_7970_6f63, // copy
-    0x01_666c_6573, // self
-    0x0164_6461, // add
-    0x01_646e_6573, // send
-    0x01_7469_7865, // exit
-    0x01_6b6e_696c, // link
-    0x01_6b6e_696c_6e75, // unlink
-    0x01_7061_7274, // trap
-    0x016e_7761_7073, // spawn
-    0x01_7663_6572, // recv
-    0x01_6573_7561_6c63, // clause
-    0x01_706d_756a, // jump
-    0x01_656d_6173, // same
-    0x01_7373_656c, // less
-    0x01_706f_7473, // stop
+const OP_WORDS: [u64; 18] = [
+    0xd0b3, // set
+    0x1c_c1e3, // copy
+    0x13_30b3, // self
+    0x9081, // add
+    0x12_38b3, // send
+    0x1a_2705, // exit
+    0x15_b92c, // link
+    0x56e4_b1d5, // unlink
+    0x18_0654, // trap
+    0x2eb_8613, // spawn
+    0x1b_0cb2, // recv
+    0x4b3a_8583, // clause
+    0x18_36aa, // jump
+    0x12_b433, // same
+    0x19_ccac, // less
+    0x18_3e93, // stop
+    0xc_9f44_b9ed, // monitor
+    0x327d_12e7_b4a4, // demonitor
 ];
 
 // The words of the clause kinds, in their order.
-const KIND_WORDS: [u64; 5] = [
-    0x0179_6e61, // any
-    0x0174_6e69, // int
-    0x01_6d6f_7461, // atom
-    0x0164_6970, // pid
-    0x01_6574_6f6e, // note
+const KIND_WORDS: [u64; 6] = [
+    0xe5c1, // any
+    0xd1c9, // int
+    0x16_be81, // atom
+    0x9130, // pid
+    0x12_d1ee, // note
+    0x17_5de4, // down
 ];
 
 // An operand as it is read: the refusal, 11 or 12, or 0; its number; and its value, where it has one.

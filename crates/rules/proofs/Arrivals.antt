@@ -8,23 +8,23 @@ use borrow.Author.Tests.{not-true, ltb-true}
 use lib.Dec.{eqb}
 use lib.ListN.{length}
 use Rattle.node.specs.declared.Message.{Message}
-use Rattle.node.specs.declared.Message.the-variants.{Plain, Note}
+use Rattle.node.specs.declared.Message.the-variants.{Plain, Note, Down as DownMessage}
 use Rattle.node.specs.declared.Process.{Process}
 use Rattle.node.specs.declared.Signal.{Signal}
-use Rattle.node.specs.declared.Signal.the-variants.{Msg, Exit, Link, Unlink}
+use Rattle.node.specs.declared.Signal.the-variants.{Msg, Exit, Link, Unlink, Monitor, Demonitor, Down}
 use Rattle.node.specs.declared.Value.{Value}
-use Rattle.node.specs.Processes.{linked, unlinked, ended}
+use Rattle.node.specs.Processes.{linked, unlinked, watched, unwatched, unwatching, ended}
 use Rattle.node.specs.Values.{killed, isNumber, valueSound, messageSound}
 use Rattle.rules.specs.Answers.{Answer}
-use Rattle.rules.specs.Arrive.{arrives, takes, exits, joinsWith, notes}
+use Rattle.rules.specs.Arrive.{arrives, takes, exits, joinsWith, notes, downs}
 use Rattle.rules.specs.Behaviours.{Instruction}
 use Rattle.rules.specs.Effects.{State, Effect, becomes, ends}
 use Rattle.rules.specs.Nodes.{standing, standingSound, signalSound, sound}
 use Rattle.rules.specs.Steps.{isUnborn}
 use Rattle.rules.proofs.All.{both}
-use Rattle.rules.proofs.Cases.{joins-any, exits-any, arrives-any}
+use Rattle.rules.proofs.Cases.{joins-any, exits-any, downs-any, answers-any, arrives-any}
 use Rattle.rules.proofs.Keeps.{Good, becomes-alive, ends-good}
-use Rattle.rules.proofs.Living.{Alive, alive, alive-sound, live-born, joined-mailed, linked-alive, unlinked-alive, mailed-alive}
+use Rattle.rules.proofs.Living.{Alive, alive, alive-sound, live-born, joined-mailed, linked-alive, unlinked-alive, watched-alive, unwatched-alive, unwatching-alive, mailed-alive}
 use Rattle.rules.proofs.Told.{Told, Ruled}
 
 module _ (i j : ℕ) (st : State) where
@@ -75,22 +75,31 @@ module _ (i j : ℕ) (st : State) where
       (notes-heard v b)
       (ends-heard (Exit v b) v (λ codes g. g .sound))
 
+  downs-heard : (v : Value) → Heard (Down v) (downs j st v)
+  downs-heard v =
+      downs-any st (Heard (Down v)) j v (becomes-heard (Down v) (st .process) (λ codes g. g .alive))
+      (joins-heard (Down v) (unwatching (st .process) j) (DownMessage (record { 0 = j }) v) (λ codes g. unwatching-alive codes i (st .process) (st .mail) (g .alive) j)
+      (λ codes g. both (g .from) (g .sound)))
+
   takes-heard : (y : Signal) → Heard y (takes i j st y)
   takes-heard (Msg v) = joins-heard (Msg v) (st .process) (Plain v) (λ codes g. g .alive) (λ codes g. g .sound)
   takes-heard (Exit v b) = exits-heard v b
   takes-heard Link = becomes-heard Link (linked (st .process) j) (λ codes g. linked-alive codes i (st .process) (st .mail) (g .alive) j (g .number) (g .from) (not-true (eqb j i) (g .sound)))
   takes-heard Unlink = becomes-heard Unlink (unlinked (st .process) j) (λ codes g. unlinked-heard codes Unlink g)
+  takes-heard Monitor = becomes-heard Monitor (watched (st .process) j) (λ codes g. watched-alive codes i (st .process) (st .mail) (g .alive) j (g .number) (g .from) (not-true (eqb j i) (g .sound)))
+  takes-heard Demonitor = becomes-heard Demonitor (unwatched (st .process) j) (λ codes g. unwatched-alive codes i (st .process) (st .mail) (g .alive) j)
+  takes-heard (Down v) = downs-heard v
 
   -- ---- an arrival
 
   pub arrives-told : (y : Signal) → Told Ruled (arrives i j st y)
-  arrives-told y = arrives-any st (Told Ruled) i j y (λ q. (omega arith, omega arith)) (λ q. takes-heard y .told) (λ q. tt) (λ q. tt)
+  arrives-told y = arrives-any st (Told Ruled) i j y (λ q. (omega arith, omega arith)) (λ q. takes-heard y .told) (λ q. answers-any st (Told Ruled) j tt tt y)
 
   pub arrives-good : (codes : List (List Instruction)) → So (isNumber i) → So (standingSound codes i (standing (st .process) (st .mail))) → So (isNumber j) → (y : Signal) →
       So (signalSound j i y) → Good codes i (st .mail) (arrives i j st y)
   arrives-good codes number sound from y h =
-      let dropped : isUnborn (st .process .stage) ≡ false → Good codes i (st .mail) (becomes st (st .process)) = λ b. record { sound = sound; mail = tt; born = b; sent = tt; birth = tt; apart = tt }
-      in
       arrives-any st (Good codes i (st .mail)) i j y (λ q. tt)
       (λ q. takes-heard y .good codes (record { number = number; from = from; alive = alive codes i (st .process) (st .mail) q sound; sound = h }))
-      (λ q. dropped (ap isUnborn q)) (λ q. dropped (ap isUnborn q))
+      (λ q.
+      answers-any st (Good codes i (st .mail)) j (record { sound = sound; mail = tt; born = q; sent = tt; birth = tt; apart = tt })
+      (record { sound = sound; mail = tt; born = q; sent = (from, refl); birth = tt; apart = tt }) y)

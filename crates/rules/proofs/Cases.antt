@@ -12,24 +12,27 @@ use lib.IntN.{ℤ, _+ℤ_}
 use lib.ListN.{length, getD, take, drop}
 use lib.Signed.{ltZ}
 use Rattle.node.specs.declared.Message.{Message}
+use Rattle.node.specs.declared.Message.the-variants.{Down as DownMessage}
 use Rattle.node.specs.declared.Op.{Op}
+use Rattle.node.specs.declared.Peers.{Peers}
 use Rattle.node.specs.declared.Process.{Process}
 use Rattle.node.specs.declared.Signal.{Signal}
-use Rattle.node.specs.declared.Signal.the-variants.{Exit}
+use Rattle.node.specs.declared.Signal.the-variants.{Exit, Down}
 use Rattle.node.specs.declared.Stage.{Stage}
 use Rattle.node.specs.declared.Stage.the-variants.{Unborn, Live, Closing, Gone}
 use Rattle.node.specs.declared.Value.{Value}
 use Rattle.node.specs.declared.Value.the-variants.{Int, Atom, Pid}
 use Rattle.node.specs.Nodes.{noOp}
-use Rattle.node.specs.Processes.{moved, advanced, linksTo, unlinked, gone}
+use Rattle.node.specs.Processes.{moved, advanced, linksTo, unlinked, watchesOver, unwatching, unwatched, gone}
 use Rattle.node.specs.Sets.{lowestPeer}
-use Rattle.node.specs.Values.{normal, kill, killed, badarg, badarith, pid, isNumber, fitsInt, sameValue}
+use Rattle.node.specs.Values.{normal, kill, killed, badarg, badarith, noproc, pid, isNumber, fitsInt, sameValue}
 use Rattle.node.proofs.Sets.{lowest-number}
 use Rattle.rules.specs.Answers.{Answer, refused, done, need, mailboxFull, noFit, ownerUnborn, ownerGone}
-use Rattle.rules.specs.Arrive.{joinsWith, notes, exits, takes, arrivesIn, arrives}
+use Rattle.rules.specs.Arrive.{joinsWith, notes, exits, downs, takes, isMonitor, answers, arrivesIn, arrives}
 use Rattle.rules.specs.Effects.{State, Effect, joining, becomes, ends, sends}
 use Rattle.rules.specs.Receive.{Fit, search, receivesFit, receives}
 use Rattle.rules.specs.Run.{setsRegister, jumpsIf, integerIn, onIntegers, setsSum, adds, compares, processIn, toProcess, sendsTo, toOther, runsOp, closesTo, closes, runsLive, runsIn, runs}
+use Rattle.rules.specs.Steps.{isUnborn}
 use Rattle.rules.proofs.All.{both}
 
 -- a value that names process j is its number
@@ -86,13 +89,21 @@ module _ (st : State) (P : Answer Effect → Type 0) where
 
   -- ---- a run
 
-  pub closes-any : P (becomes st (gone (st .process))) → ((j : ℕ) → So (isNumber j) → P (sends st (unlinked (st .process) j) j (Exit (st .process .reason) true))) → P (closes st)
-  unfolding closes isNumber
-  closes-any g h = go (lowestPeer (st .process .links)) refl
+  -- the lowest process of a set is one
+  lowest-is : (s : Peers) (j : ℕ) → lowestPeer s ≡ suc j → So (isNumber (suc j))
+  unfolding isNumber
+  lowest-is s j e = let b = lowest-number s j e in both (le-leb 1 (suc j) (omega arith)) (le-leb (suc j) 16 b)
+
+  -- gone, or the lowest link is told, or the lowest watcher
+  pub closes-any : P (becomes st (gone (st .process))) → ((j : ℕ) → So (isNumber j) → P (sends st (unlinked (st .process) j) j (Exit (st .process .reason) true))) →
+      ((j : ℕ) → So (isNumber j) → P (sends st (unwatched (st .process) j) j (Down (st .process .reason)))) → P (closes st)
+  unfolding closes
+  closes-any g h w = go (lowestPeer (st .process .links)) refl (lowestPeer (st .process .watchers)) refl
     where
-      go : (j : ℕ) → lowestPeer (st .process .links) ≡ j → P (closesTo st j)
-      go zero e = g
-      go (suc j) e = let b = lowest-number (st .process .links) j e in h (suc j) (both (le-leb 1 (suc j) (omega arith)) (le-leb (suc j) 16 b))
+      go : (j : ℕ) → lowestPeer (st .process .links) ≡ j → (k : ℕ) → lowestPeer (st .process .watchers) ≡ k → P (closesTo st j k)
+      go (suc j) e k f = h (suc j) (lowest-is (st .process .links) j e)
+      go zero e (suc k) f = w (suc k) (lowest-is (st .process .watchers) k f)
+      go zero e zero f = g
 
   pub runs-any : (code : List Op) (i : ℕ) →
       (st .process .stage ≡ Unborn → P (refused ownerUnborn)) →
@@ -136,17 +147,33 @@ module _ (st : State) (P : Answer Effect → Type 0) where
       go false false false true = same
       go false false false false = ended
 
+  -- dropped, or the message joins and the watch is over
+  pub downs-any : (j : ℕ) (v : Value) → P (becomes st (st .process)) → P (joinsWith st (unwatching (st .process) j) (DownMessage (record { 0 = j }) v)) → P (downs j st v)
+  unfolding downs
+  downs-any j v same joined = go (watchesOver (st .process) j)
+    where
+      go : (b : Bool) → P (cond b (joinsWith st (unwatching (st .process) j) (DownMessage (record { 0 = j }) v)) (becomes st (st .process)))
+      go true = joined
+      go false = same
+
+  -- an ended process drops a signal, or answers a monitor
+  pub answers-any : (j : ℕ) → P (becomes st (st .process)) → P (sends st (st .process) j (Down noproc)) → (x : Signal) → P (answers j st x)
+  answers-any j same told x = go (isMonitor x)
+    where
+      go : (b : Bool) → P (cond b (sends st (st .process) j (Down noproc)) (becomes st (st .process)))
+      go true = told
+      go false = same
+
   pub arrives-any : (i j : ℕ) (x : Signal) →
       (st .process .stage ≡ Unborn → P (refused ownerUnborn)) →
       (st .process .stage ≡ Live → P (takes i j st x)) →
-      (st .process .stage ≡ Closing → P (becomes st (st .process))) →
-      (st .process .stage ≡ Gone → P (becomes st (st .process))) →
+      (isUnborn (st .process .stage) ≡ false → P (answers j st x)) →
       P (arrives i j st x)
   unfolding arrives
-  arrives-any i j x u t c g = go (st .process .stage) refl
+  arrives-any i j x u t a = go (st .process .stage) refl
     where
       go : (s : Stage) → st .process .stage ≡ s → P (arrivesIn s i j st x)
       go Unborn q = u q
       go Live q = t q
-      go Closing q = c q
-      go Gone q = g q
+      go Closing q = a (ap isUnborn q)
+      go Gone q = a (ap isUnborn q)

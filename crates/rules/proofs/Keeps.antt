@@ -17,7 +17,7 @@ use Rattle.rules.specs.Nodes.{standing, standingSound, signalSound}
 use Rattle.rules.specs.Steps.{isUnborn}
 use Rattle.node.specs.Values.{isNumber, valueSound}
 use Rattle.rules.proofs.All.{both}
-use Rattle.rules.proofs.Living.{Unlinked, Alive, alive-sound, live-born}
+use Rattle.rules.proofs.Living.{Alone, Alive, alive-sound, live-born}
 
 -- ---- what an effect must keep
 
@@ -69,7 +69,7 @@ pub sends-alive : (codes : List (List Instruction)) (i : ℕ) (st : State) (q : 
     Good codes i (st .mail) (sends st q j x)
 sends-alive codes i st q j x a n h = record { sound = alive-sound codes i q (st .mail) a; mail = tt; born = live-born codes i q (st .mail) a; sent = (n, h); birth = tt; apart = tt }
 
--- an ended process keeps its reason and its links
-pub ends-good : (codes : List (List Instruction)) (i : ℕ) (st : State) (v : Value) → So (valueSound v) → Unlinked i (st .process) → Good codes i (st .mail) (ends st v)
+-- an ended process keeps its reason, its links and its watchers
+pub ends-good : (codes : List (List Instruction)) (i : ℕ) (st : State) (v : Value) → So (valueSound v) → Alone i (st .process) → Good codes i (st .mail) (ends st v)
 unfolding standing ended
-ends-good codes i st v h a = record { sound = both h a; mail = tt; born = refl; sent = tt; birth = tt; apart = tt }
+ends-good codes i st v h a = record { sound = both (both h (a .links)) (a .watchers); mail = tt; born = refl; sent = tt; birth = tt; apart = tt }

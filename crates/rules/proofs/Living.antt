@@ -1,4 +1,4 @@
--- A live process taken apart into what a change of it touches, its place, its registers, its links and its mailbox (`Alive`), and what each
+-- A live process taken apart into what a change of it touches, its place, its registers, its sets and its mailbox (`Alive`), and what each
 -- change keeps of them. Assumes nothing.
 use mathlib.Core.Bool.{Bool, true, false, not, So, cond, _&&_}
 use mathlib.Core.List.{List, [], _∷_, _++_}
@@ -15,7 +15,7 @@ use Rattle.node.specs.declared.Stage.{Stage}
 use Rattle.node.specs.declared.Stage.the-variants.{Unborn, Live, Closing, Gone}
 use Rattle.node.specs.declared.Value.{Value}
 use Rattle.node.specs.Lists.{without, allOf}
-use Rattle.node.specs.Processes.{register, withRegister, withRegisters, moved, trapped, linked, unlinked}
+use Rattle.node.specs.Processes.{register, withRegister, withRegisters, moved, trapped, linked, unlinked, watching, unwatching, watched, unwatched}
 use Rattle.node.specs.Sets.{noPeers, has, withPeer, withoutPeer}
 use Rattle.node.proofs.Sets.{has-none, has-with-other, has-without-false}
 use Rattle.rules.specs.Behaviours.{Instruction, onClause}
@@ -46,8 +46,14 @@ pub record Valued (a b c d : Value) : Type 0 where
 abbrev pub Apart : ℕ → Peers → Type 0
 Apart i s = So (not (setOf s i))
 
-abbrev pub Unlinked : ℕ → Process → Type 0
-Unlinked i p = Apart i (p .links)
+-- nor in any of its own three
+pub record Lone (i : ℕ) (l w v : Peers) : Type 0 where
+  pub links : Apart i l
+  pub watches : Apart i w
+  pub watchers : Apart i v
+
+abbrev pub Alone : ℕ → Process → Type 0
+Alone i p = Lone i (p .links) (p .watches) (p .watchers)
 
 pub record Mailed (m : List Message) : Type 0 where
   pub few : So (leb (length m) 16)
@@ -57,7 +63,7 @@ pub record Alive (codes : List (List Instruction)) (i : ℕ) (p : Process) (m : 
   pub stage : p .stage ≡ Live
   pub placed : Placed codes (p .behaviour .0) (p .place)
   pub valued : Valued (p .r0) (p .r1) (p .r2) (p .r3)
-  pub apart : Unlinked i p
+  pub apart : Alone i p
   pub mailed : Mailed m
 
 module _ (codes : List (List Instruction)) (i : ℕ) (p : Process) (m : List Message) where
@@ -65,7 +71,9 @@ module _ (codes : List (List Instruction)) (i : ℕ) (p : Process) (m : List Mes
   unfolding standing runningSound
   alive e h =
       let t : So (standingSound codes i (standingIn Live p m)) = subst (λ (s : Stage). So (standingSound codes i (standingIn s p m))) e h in
-      let a = parts _ _ t in
+      let y = parts _ _ t in
+      let z = parts _ _ (y .0) in
+      let a = parts _ _ (z .0) in
       let b = parts _ _ (a .0) in
       let c = parts _ _ (b .0) in
       let d = parts _ _ (c .0) in
@@ -78,7 +86,7 @@ module _ (codes : List (List Instruction)) (i : ℕ) (p : Process) (m : List Mes
         stage = e;
         placed = record { known = g .0; within = g .1; off = f .1 };
         valued = record { v0 = v .0; v1 = w .0; v2 = x .0; v3 = parts _ _ (x .1) .0 };
-        apart = a .1;
+        apart = record { links = a .1; watches = z .1; watchers = y .1 };
         mailed = record { few = c .1; sound = b .1 };
       }
 
@@ -87,8 +95,9 @@ module _ (codes : List (List Instruction)) (i : ℕ) (p : Process) (m : List Mes
   alive-sound a =
       let v = a .valued in
       let x = a .placed in
-      let t : So (standingSound codes i (standingIn Live p m)) =
-      both (both (both (both (both (both (x .known) (x .within)) (x .off)) (both (v .v0) (both (v .v1) (both (v .v2) (both (v .v3) refl))))) (a .mailed .few)) (a .mailed .sound)) (a .apart) in
+      let values = both (v .v0) (both (v .v1) (both (v .v2) (both (v .v3) refl))) in
+      let runs = both (both (both (both (both (x .known) (x .within)) (x .off)) values) (a .mailed .few)) (a .mailed .sound) in
+      let t : So (standingSound codes i (standingIn Live p m)) = both (both (both runs (a .apart .links)) (a .apart .watches)) (a .apart .watchers) in
       subst (λ (s : Stage). So (standingSound codes i (standingIn s p m))) (sym (a .stage)) t
 
 module _ (m : List Message) (a : Mailed m) where
@@ -164,6 +173,23 @@ none-apart i = go (isNumber i)
 
 -- ---- changes of a live process
 
+-- the three sets anew
+abbrev withSets : Process → Peers → Peers → Peers → Process
+withSets p l w v = record {
+  stage = p .stage;
+  behaviour = p .behaviour;
+  place = p .place;
+  r0 = p .r0;
+  r1 = p .r1;
+  r2 = p .r2;
+  r3 = p .r3;
+  trap = p .trap;
+  links = l;
+  watches = w;
+  watchers = v;
+  reason = p .reason;
+}
+
 module _ (codes : List (List Instruction)) (i : ℕ) (p : Process) (m : List Message) (a : Alive codes i p m) where
   pub live-born : isUnborn (p .stage) ≡ false
   live-born = ap isUnborn (a .stage)
@@ -179,13 +205,36 @@ module _ (codes : List (List Instruction)) (i : ℕ) (p : Process) (m : List Mes
   unfolding trapped
   trapped-alive f = record { stage = a .stage; placed = a .placed; valued = a .valued; apart = a .apart; mailed = a .mailed }
 
-  pub linked-alive : (j : ℕ) → So (isNumber i) → So (isNumber j) → eqb j i ≡ false → Alive codes i (linked p j) m
-  unfolding linked
-  linked-alive j n h e = record { stage = a .stage; placed = a .placed; valued = a .valued; apart = with-apart i (p .links) (a .apart) j n h e; mailed = a .mailed }
+  sets-alive : (l w v : Peers) → Lone i l w v → Alive codes i (withSets p l w v) m
+  sets-alive l w v h = record { stage = a .stage; placed = a .placed; valued = a .valued; apart = h; mailed = a .mailed }
 
-  pub unlinked-alive : (j : ℕ) → Alive codes i (unlinked p j) m
-  unfolding unlinked
-  unlinked-alive j = record { stage = a .stage; placed = a .placed; valued = a .valued; apart = without-apart i (p .links) (a .apart) j; mailed = a .mailed }
+  -- another process joins a set
+  module _ (j : ℕ) (n : So (isNumber i)) (h : So (isNumber j)) (e : eqb j i ≡ false) where
+    pub linked-alive : Alive codes i (linked p j) m
+    unfolding linked
+    linked-alive = sets-alive _ _ _ (record { links = with-apart i (p .links) (a .apart .links) j n h e; watches = a .apart .watches; watchers = a .apart .watchers })
+
+    pub watching-alive : Alive codes i (watching p j) m
+    unfolding watching
+    watching-alive = sets-alive _ _ _ (record { links = a .apart .links; watches = with-apart i (p .watches) (a .apart .watches) j n h e; watchers = a .apart .watchers })
+
+    pub watched-alive : Alive codes i (watched p j) m
+    unfolding watched
+    watched-alive = sets-alive _ _ _ (record { links = a .apart .links; watches = a .apart .watches; watchers = with-apart i (p .watchers) (a .apart .watchers) j n h e })
+
+  -- a process leaves a set
+  module _ (j : ℕ) where
+    pub unlinked-alive : Alive codes i (unlinked p j) m
+    unfolding unlinked
+    unlinked-alive = sets-alive _ _ _ (record { links = without-apart i (p .links) (a .apart .links) j; watches = a .apart .watches; watchers = a .apart .watchers })
+
+    pub unwatching-alive : Alive codes i (unwatching p j) m
+    unfolding unwatching
+    unwatching-alive = sets-alive _ _ _ (record { links = a .apart .links; watches = without-apart i (p .watches) (a .apart .watches) j; watchers = a .apart .watchers })
+
+    pub unwatched-alive : Alive codes i (unwatched p j) m
+    unfolding unwatched
+    unwatched-alive = sets-alive _ _ _ (record { links = a .apart .links; watches = a .apart .watches; watchers = without-apart i (p .watchers) (a .apart .watchers) j })
 
   pub mailed-alive : (b : List Message) → Mailed b → Alive codes i p b
   mailed-alive b h = record { stage = a .stage; placed = a .placed; valued = a .valued; apart = a .apart; mailed = h }

@@ -16,30 +16,31 @@ use lib.Dec.{leb, eqb}
 use lib.ListN.{length, getD, take, drop, length-map, length-take, length-drop}
 use lib.Seq.{getD-take, getD-drop}
 use Rattle.node.specs.declared.Message.{Message}
-use Rattle.node.specs.declared.Message.the-variants.{Plain, Note}
+use Rattle.node.specs.declared.Message.the-variants.{Plain, Note, Down}
 use Rattle.node.specs.declared.Op.{Op}
 use Rattle.node.specs.declared.OperandKind.the-variants.{NoOperand, PlaceT}
 use Rattle.node.specs.declared.Process.{Process}
+use Rattle.node.specs.declared.ProcessNumber.{ProcessNumber}
 use Rattle.node.specs.declared.Signal.{Signal}
-use Rattle.node.specs.declared.Signal.the-variants.{Msg, Exit, Link, Unlink}
+use Rattle.node.specs.declared.Signal.the-variants.{Msg, Exit, Link, Unlink, Monitor, Demonitor}
 use Rattle.node.specs.declared.Value.{Value}
 use Rattle.node.specs.declared.Value.the-variants.{Int, Pid}
 use Rattle.node.specs.Lists.{without, allOf}
 use Rattle.node.specs.Nodes.{noOp}
 use Rattle.node.specs.Ops.{kindsOf, opCount, recvOp, clauseOp}
-use Rattle.node.specs.Processes.{register, withRegister, withRegisters, moved, advanced, trapped, linked, unlinked, ended}
+use Rattle.node.specs.Processes.{register, withRegister, withRegisters, moved, advanced, trapped, linked, unlinked, watching, unwatching, ended}
 use Rattle.node.specs.Values.{badarg, badarith, pid, isNumber, valueSound, messageSound, sameValue}
 use Rattle.rules.specs.Answers.{Answer, noFit}
 use Rattle.rules.specs.Behaviours.{Instruction, instruction, numeric, operand, operandInRange, onClause, isRecv, isClause, clauseCount, noInstruction, hasClauses, codeSound}
 use Rattle.rules.specs.Effects.{State, Effect, becomes, ends}
 use Rattle.rules.specs.Nodes.{signalSound, sound}
-use Rattle.rules.specs.Receive.{Fit, fits, firstClause, search, withMessage, receivesFit, receives}
+use Rattle.rules.specs.Receive.{Fit, fits, firstClause, search, withSender, withMessage, receivesFit, receives}
 use Rattle.rules.specs.Run.{setsRegister, jumpsIf, sendsTo, toOther, spawns, stops, opTable, runsOp}
 use Rattle.rules.proofs.All.{parts, allOf-at, Each, last, _then_, each-at}
 use Rattle.rules.proofs.Cases.{jumps-any, adds-any, compares-any, sendsTo-any, toOther-any, receives-any}
 use Rattle.rules.proofs.Keeps.{Good, becomes-alive, sends-alive, ends-good}
 use Rattle.rules.proofs.Living.{codeOf, Valued, Mailed, Alive, alive, alive-sound, live-born, without-mailed, register-sound, withRegister-keeps, moved-alive, registers-alive}
-use Rattle.rules.proofs.Living.{trapped-alive, linked-alive, unlinked-alive, mailed-alive}
+use Rattle.rules.proofs.Living.{trapped-alive, linked-alive, unlinked-alive, watching-alive, unwatching-alive, mailed-alive}
 use Rattle.rules.proofs.Places.{code-short, next-off, op-at, facts, in-range, target-at, fresh-sound}
 use Rattle.rules.proofs.Told.{Told}
 
@@ -192,13 +193,18 @@ module _ (codes : List (List Instruction)) (i : ℕ) (ops : List Op) (st : State
         let q = withRegisters p b c d e in
         moved-alive codes i q m (mailed-alive codes i q (st .mail) (registers-alive codes i p (st .mail) (g .alive) b c d e w) m mail) k (rw (g .same) within) (rw (g .same) off)
 
-    withMessage-alive : (c : Op) (x : Message) → So (messageSound x) → Alive codes i (moved (withMessage p c x) k) m
-    withMessage-alive c (Plain v) h = withRegister-keeps p (g .alive .valued) (λ q. Alive codes i (moved q k) m) moved-with (c .r) v h
-    withMessage-alive c (Note j v) h =
+    -- a sender and its reason go to two registers
+    told-alive : (c : Op) (j : ProcessNumber) (v : Value) → So (isNumber (j .0) && valueSound v) → Alive codes i (moved (withSender p c j v) k) m
+    told-alive c j v h =
         let w = parts (isNumber (j .0)) (valueSound v) h in
         withRegister-keeps p (g .alive .valued) (λ q. Alive codes i (moved (withRegister q (c .s) v) k) m)
         (λ b d e f u. withRegister-keeps (withRegisters p b d e f) u (λ q. Alive codes i (moved q k) m) moved-with (c .s) v (w .1))
         (c .r) (Pid j) (w .0)
+
+    withMessage-alive : (c : Op) (x : Message) → So (messageSound x) → Alive codes i (moved (withMessage p c x) k) m
+    withMessage-alive c (Plain v) h = withRegister-keeps p (g .alive .valued) (λ q. Alive codes i (moved q k) m) moved-with (c .r) v h
+    withMessage-alive c (Note j v) h = told-alive c j v h
+    withMessage-alive c (Down j v) h = told-alive c j v h
 
   fit-good : o .number ≡ recvOp → (f : Fit) → search (take (o .small) (drop (t + 1) ops)) 0 (st .mail) ≡ some f → Good codes i (st .mail) (receivesFit st (some f))
   fit-good e f q =
@@ -288,7 +294,7 @@ module _ (code : List Op) (i : ℕ) (st : State) (o : Op) where
   jumps-shown : (k : ℕ) → eqb k recvOp ≡ false → If k Lands → (b : Bool) → Shown k (jumpsIf st b (o .target))
   jumps-shown k h l b = jumps-any st (Shown k) (o .target) (moves-shown k l) (stays-shown k h) b
 
-  -- the process as q: its links may differ, its behaviour and place do not
+  -- the process as q: its sets may differ, its behaviour and place do not
   abbrev Kin : Process → List (List Instruction) → Type 0
   Kin q codes = Alive codes i q (st .mail) × (q .behaviour .0 ≡ st .process .behaviour .0) × (q .place ≡ st .process .place)
 
@@ -322,7 +328,7 @@ module _ (code : List Op) (i : ℕ) (st : State) (o : Op) where
   send-shown : (k : ℕ) → eqb k recvOp ≡ false → (x : Signal) → ((j : ℕ) → If k (λ c. So (signalSound i j x))) → Shown k (sendsTo st r (λ j. st .process) x)
   send-shown k h x f = sends-shown k h (λ j. st .process) x (λ j n c g e. (f j c g e, (g .alive, refl, refl)))
 
-  -- link and unlink go to another process
+  -- link, unlink, monitor and demonitor go to another process
   others-shown : (k : ℕ) → eqb k recvOp ≡ false → (q : ℕ → Process) (x : Signal) → ((j : ℕ) → So (not (eqb i j)) → So (signalSound i j x)) →
       ((j : ℕ) → eqb j i ≡ false → So (isNumber j) → If k (Kin (q j))) → Shown k (toOther i st r (sendsTo st r q x))
   unfolding sameValue
@@ -338,6 +344,14 @@ module _ (code : List Op) (i : ℕ) (st : State) (o : Op) where
   unlinked-shown : Shown 7 (toOther i st r (sendsTo st r (unlinked (st .process)) Unlink))
   unfolding unlinked
   unlinked-shown = others-shown 7 refl (unlinked (st .process)) Unlink (λ j h. h) (λ j d n codes g e. (unlinked-alive codes i (st .process) (st .mail) (g .alive) j, refl, refl))
+
+  watching-shown : Shown 16 (toOther i st r (sendsTo st r (watching (st .process)) Monitor))
+  unfolding watching
+  watching-shown = others-shown 16 refl (watching (st .process)) Monitor (λ j h. h) (λ j d n codes g e. (watching-alive codes i (st .process) (st .mail) (g .alive) j (g .number) n d, refl, refl))
+
+  unwatching-shown : Shown 17 (toOther i st r (sendsTo st r (unwatching (st .process)) Demonitor))
+  unfolding unwatching
+  unwatching-shown = others-shown 17 refl (unwatching (st .process)) Demonitor (λ j h. h) (λ j d n codes g e. (unwatching-alive codes i (st .process) (st .mail) (g .alive) j, refl, refl))
 
   spawns-shown : Shown 9 (spawns i st o)
   unfolding advanced
@@ -384,6 +398,8 @@ module _ (code : List Op) (i : ℕ) (st : State) (o : Op) where
       then jumps-shown 13 refl (lands 13 2 (omega arith) refl) (sameValue r (o .value))
       then compares-any st (Shown 14) (o .target) (jumps-shown 14 refl (lands 14 2 (omega arith) refl)) (ends-shown 14 badarg (λ c g e. refl)) r s
       then stops-shown 15
+      then watching-shown
+      then unwatching-shown
       then last
 
   pub op-shown : Shown (o .number) (runsOp code i st o)

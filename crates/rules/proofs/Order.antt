@@ -13,21 +13,22 @@ use lib.ListN.{length, getD, set, take, drop}
 use lib.Seq.{getD-set-other}
 use Rattle.node.specs.declared.Node.{Node}
 use Rattle.node.specs.declared.Process.{Process}
+use Rattle.node.specs.declared.Signal.{Signal}
 use Rattle.node.specs.declared.Stage.{Stage}
 use Rattle.node.specs.declared.Stage.the-variants.{Unborn, Live, Closing, Gone}
 use Rattle.node.specs.Nodes.{noProcess}
-use Rattle.node.specs.Processes.{gone, unlinked}
-use Rattle.node.specs.Sets.{lowestPeer}
+use Rattle.node.specs.Processes.{gone, unlinked, unwatched}
 use Rattle.rules.specs.Answers.{Answer, refused, done, notSound, scheduleTooLong}
 use Rattle.rules.specs.Calls.{Call, single, schedule, nodeBehind, ifAccepted, callNode, callSteps, after, accepted, acceptedBy}
 use Rattle.rules.specs.Effects.{Effect, Sending, Birth, State}
 use Rattle.rules.specs.Guarantees.{Order, SoundKept, Stopped, PlayIsSteps, undecided, full, taken, Exclusive, rank, Forward}
 use Rattle.rules.specs.Nodes.{sound, Sound, Equal, view, behavioursOf, code, process, mailbox}
-use Rattle.rules.specs.Arrive.{arrivesIn, arrives}
-use Rattle.rules.specs.Run.{closesTo, closes, runsIn, runs}
+use Rattle.rules.specs.Arrive.{answers, arrivesIn, arrives}
+use Rattle.rules.specs.Run.{closes, runsIn, runs}
 use Rattle.node.specs.Values.{numbers}
 use Rattle.rules.specs.Steps.{Action, run, arrive, owner, isUnborn, ownerBorn, pairHasRoom, numberFree, withBirth, state, incoming, commit, decide, step, playsOn, played, play}
 use Rattle.rules.specs.Traces.{Runs}
+use Rattle.rules.proofs.Cases.{closes-any, answers-any}
 use Rattle.rules.proofs.Accepted.{Act, goes-rule, step-rule, step-goes}
 use Rattle.rules.proofs.Commute.{act-kept, free-back, free-on, Off, free-off, off-a, commits-swap}
 use Rattle.rules.proofs.Keeps.{Keeps, NotBoth}
@@ -207,16 +208,16 @@ set-forward (x ∷ l) (suc k) (suc i) p h = set-forward l k i p h
 
 -- a closing process stays closing or is gone
 closes-rank : (st : State) (e : Effect) → st .process .stage ≡ Closing → closes st ≡ done e → 2 ≤ rank (e .process .stage)
-unfolding closes gone unlinked processOf
-closes-rank st e c h = go (lowestPeer (st .process .links)) h
-  where
-    go : (j : ℕ) → closesTo st j ≡ done e → 2 ≤ rank (e .process .stage)
-    go zero q =
-        let d : gone (st .process) ≡ e .process = ap processOf q in
-        rw (← d) (omega arith)
-    go (suc j) q =
-        let d : unlinked (st .process) (suc j) ≡ e .process = ap processOf q in
-        rw (← d, c) (omega arith)
+unfolding gone unlinked unwatched processOf
+closes-rank st e c = closes-any st (λ x. x ≡ done e → 2 ≤ rank (e .process .stage))
+    (λ q. let d : gone (st .process) ≡ e .process = ap processOf q in rw (← d) (omega arith))
+    (λ j n q. let d : unlinked (st .process) j ≡ e .process = ap processOf q in rw (← d, c) (omega arith))
+    (λ j n q. let d : unwatched (st .process) j ≡ e .process = ap processOf q in rw (← d, c) (omega arith))
+
+-- an ended process is as it was behind an arrival
+answers-same : (st : State) (e : Effect) (j : ℕ) (x : Signal) → answers j st x ≡ done e → st .process ≡ e .process
+unfolding processOf
+answers-same st e j x = answers-any st (λ y. y ≡ done e → st .process ≡ e .process) j (λ q. ap processOf q) (λ q. ap processOf q) x
 
 -- an owner's stage goes forward
 owner-forward : (n : Node) (a : Action) (e : Effect) → Keeps (behavioursOf n) (owner a) (mailbox n (owner a)) e → So (ownerBorn n a) → decide n a ≡ done e → rank (process n (owner a) .stage) ≤ rank
@@ -234,8 +235,8 @@ owner-forward n (arrive i j) e k w h = go (process n i .stage) refl h
     go : (s : Stage) → process n i .stage ≡ s → arrivesIn s i j (state n i) (incoming n j i) ≡ done e → rank s ≤ rank (e .process .stage)
     go Unborn q h = omega arith
     go Live q h = born-rank (e .process .stage) (k .born)
-    go Closing q h = let d : process n i ≡ e .process = ap processOf h in rw (← d, q) (omega arith)
-    go Gone q h = let d : process n i ≡ e .process = ap processOf h in rw (← d, q) (omega arith)
+    go Closing q h = let d : process n i ≡ e .process = answers-same (state n i) e j (incoming n j i) h in rw (← d, q) (omega arith)
+    go Gone q h = let d : process n i ≡ e .process = answers-same (state n i) e j (incoming n j i) h in rw (← d, q) (omega arith)
 
 birth-forward : (n : Node) (a : Action) (p : Process) (o : Option Birth) → So (numberFree n o) → So (ownerBorn n a) → (i : ℕ) → rank (getD (set (n .processes) (owner a - 1) p) i noProcess .stage) ≤
     rank (getD (withBirth (set (n .processes) (owner a - 1) p) o) i noProcess .stage)

@@ -164,7 +164,7 @@ module _ (codes : List (List Instruction)) (sounds : So (allOf (codeSound (lengt
         stage = refl;
         placed = record { known = known; within = le-leb 0 (length (codeOf codes (b .0))) (omega arith); off = none-due-off (length codes) (codeOf codes (b .0)) sound 0 refl };
         valued = record { v0 = h; v1 = refl; v2 = refl; v3 = refl };
-        apart = none-apart i;
+        apart = record { links = none-apart i; watches = none-apart i; watchers = none-apart i };
         mailed = empty-mailed;
       }
 

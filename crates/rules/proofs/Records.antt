@@ -22,7 +22,7 @@ use Rattle.node.specs.declared.Value.{Value}
 use Rattle.node.specs.Blocks.{Block, held, joined, left, popped, emptied}
 use Rattle.node.specs.Lists.{without}
 use Rattle.node.specs.Mailboxes.{noMessage, slotOf, messages}
-use Rattle.node.specs.Processes.{ended, gone}
+use Rattle.node.specs.Processes.{ended, gone, linked, unlinked, watching, unwatching, watched, unwatched}
 use Rattle.node.specs.Sets.{bitsOf, has, withPeer, withoutPeer}
 use Rattle.node.proofs.Sets.{bits-of-length, bits-of-with, bits-of-without}
 use Rattle.node.specs.Rows.{noSignal, cellOf, signals, oldest}
@@ -77,7 +77,7 @@ module _ (b : Block Cell) (four : length (b .cells) ≡ 4) where
       let c : 0 < b .count = rw (signals-length b) at h in
       ap (map (λ (s : Cell). s .signal)) (held-popped noSignal b c (omega arith))
 
--- ---- link sets
+-- ---- sets of processes
 
 pub number-bounds : (j : ℕ) → isNumber j ≡ true → (1 ≤ j) × (j ≤ 16)
 unfolding isNumber
@@ -113,10 +113,36 @@ module _ (s : Peers) (j : ℕ) (number : isNumber j ≡ true) where
       go (yes e) = rw (e, eq-eqb j j refl) (set-at false)
       go (no h) = rw (ne-eqb k j h) (set-else false k h)
 
+-- the methods of a process, by the sets of its view
+module _ (p : Process) (j : ℕ) (number : isNumber j ≡ true) (k : ℕ) where
+  pub linked-joins : setOf (linked p j .links) k ≡ (eqb k j || setOf (p .links) k)
+  unfolding linked
+  linked-joins = set-with (p .links) j number k
+
+  pub unlinked-leaves : setOf (unlinked p j .links) k ≡ (not (eqb k j) && setOf (p .links) k)
+  unfolding unlinked
+  unlinked-leaves = set-without (p .links) j number k
+
+  pub watching-joins : setOf (watching p j .watches) k ≡ (eqb k j || setOf (p .watches) k)
+  unfolding watching
+  watching-joins = set-with (p .watches) j number k
+
+  pub unwatching-leaves : setOf (unwatching p j .watches) k ≡ (not (eqb k j) && setOf (p .watches) k)
+  unfolding unwatching
+  unwatching-leaves = set-without (p .watches) j number k
+
+  pub watched-joins : setOf (watched p j .watchers) k ≡ (eqb k j || setOf (p .watchers) k)
+  unfolding watched
+  watched-joins = set-with (p .watchers) j number k
+
+  pub unwatched-leaves : setOf (unwatched p j .watchers) k ≡ (not (eqb k j) && setOf (p .watchers) k)
+  unfolding unwatched
+  unwatched-leaves = set-without (p .watchers) j number k
+
 -- ---- ending
 
--- an ended process holds its reason and its links, which are unchanged
-pub standing-ended : (p : Process) (m : List Message) (v : Value) → standing (ended p v) m ≡ nodes.closing v (setOf (p .links))
+-- an ended process holds its reason, and its links and watchers, which are unchanged
+pub standing-ended : (p : Process) (m : List Message) (v : Value) → standing (ended p v) m ≡ nodes.closing v (setOf (p .links)) (setOf (p .watchers))
 unfolding standing ended
 standing-ended p m v = refl
 

@@ -13,7 +13,7 @@ use Rattle.node.specs.declared.Stage.{Stage}
 use Rattle.node.specs.declared.Stage.the-variants.{Closing, Gone}
 use Rattle.node.specs.Lists.{allOf}
 use Rattle.node.specs.Nodes.{noOp}
-use Rattle.node.specs.Processes.{unlinked, gone}
+use Rattle.node.specs.Processes.{unlinked, unwatched, gone}
 use Rattle.node.specs.Values.{normal, isNumber, valueSound}
 use Rattle.rules.specs.Behaviours.{Instruction, instruction, codeSound}
 use Rattle.rules.specs.Effects.{State}
@@ -23,7 +23,7 @@ use Rattle.rules.specs.Steps.{isUnborn}
 use Rattle.rules.proofs.All.{both, parts}
 use Rattle.rules.proofs.Cases.{closes-any, runs-any}
 use Rattle.rules.proofs.Keeps.{Good, ends-good}
-use Rattle.rules.proofs.Living.{codeOf, Unlinked, alive, without-apart}
+use Rattle.rules.proofs.Living.{codeOf, Apart, alive, without-apart}
 use Rattle.rules.proofs.Ops.{At, op-shown}
 use Rattle.rules.proofs.Told.{Told, Ruled, told-more}
 
@@ -37,9 +37,21 @@ unlinked-stage : (p : Process) (j : ℕ) {s : Stage} → p .stage ≡ s → unli
 unfolding unlinked
 unlinked-stage p j e = e
 
-closing-sound : (p : Process) (i j : ℕ) → So (valueSound (p .reason)) → Unlinked i p → So (valueSound (unlinked p j .reason) && not (setOf (unlinked p j .links) i))
-unfolding unlinked
-closing-sound p i j h g = both h (without-apart i (p .links) g j)
+unwatched-stage : (p : Process) (j : ℕ) {s : Stage} → p .stage ≡ s → unwatched p j .stage ≡ s
+unfolding unwatched
+unwatched-stage p j e = e
+
+abbrev ClosingSound : ℕ → Process → Type 0
+ClosingSound i p = So (valueSound (p .reason) && not (setOf (p .links) i) && not (setOf (p .watchers) i))
+
+module _ (p : Process) (i j : ℕ) (h : So (valueSound (p .reason))) (g : Apart i (p .links)) (w : Apart i (p .watchers)) where
+  unlinked-sound : ClosingSound i (unlinked p j)
+  unfolding unlinked
+  unlinked-sound = both (both h (without-apart i (p .links) g j)) w
+
+  unwatched-sound : ClosingSound i (unwatched p j)
+  unfolding unwatched
+  unwatched-sound = both (both h g) (without-apart i (p .watchers) w j)
 
 module _ (codes : List (List Instruction)) (i : ℕ) (st : State) (sound : So (standingSound codes i (standing (st .process) (st .mail)))) where
   -- what is known where the stage is
@@ -55,13 +67,22 @@ module _ (codes : List (List Instruction)) (i : ℕ) (st : State) (sound : So (s
   closes-good : st .process .stage ≡ Closing → Good codes i (st .mail) (closes st)
   closes-good e =
       let p = st .process in
-      let w = parts (valueSound (p .reason)) (not (setOf (p .links) i)) (at-stage Closing e) in
+      let v = parts (valueSound (p .reason) && not (setOf (p .links) i)) (not (setOf (p .watchers) i)) (at-stage Closing e) in
+      let w = parts (valueSound (p .reason)) (not (setOf (p .links) i)) (v .0) in
       closes-any st (Good codes i (st .mail))
       (record { sound = in-stage Gone (gone p) (gone-stage p) refl; mail = tt; born = ap isUnborn (gone-stage p); sent = tt; birth = tt; apart = tt })
       (λ j n. record {
-        sound = in-stage Closing (unlinked p j) (unlinked-stage p j e) (closing-sound p i j (w .0) (w .1));
+        sound = in-stage Closing (unlinked p j) (unlinked-stage p j e) (unlinked-sound p i j (w .0) (w .1) (v .1));
         mail = tt;
         born = ap isUnborn (unlinked-stage p j e);
+        sent = (n, w .0);
+        birth = tt;
+        apart = tt;
+      })
+      (λ j n. record {
+        sound = in-stage Closing (unwatched p j) (unwatched-stage p j e) (unwatched-sound p i j (w .0) (w .1) (v .1));
+        mail = tt;
+        born = ap isUnborn (unwatched-stage p j e);
         sent = (n, w .0);
         birth = tt;
         apart = tt;
@@ -70,7 +91,7 @@ module _ (codes : List (List Instruction)) (i : ℕ) (st : State) (sound : So (s
 module _ (st : State) where
   -- never refused
   pub closes-told : (P : ℕ → Type 0) → Told P (closes st)
-  closes-told P = closes-any st (Told P) tt (λ j n. tt)
+  closes-told P = closes-any st (Told P) tt (λ j n. tt) (λ j n. tt)
 
 -- ---- a run
 

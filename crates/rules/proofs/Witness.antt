@@ -45,7 +45,20 @@ mixed = single (run 2) ∷ single (run 3) ∷ schedule (run 1 ∷ run 1 ∷ run 
 
 -- both processes have ended with a0, and are closing
 stands : ℕ → ℕ → Value → Value → Process
-stands b t v w = record { stage = Closing; behaviour = record { 0 = b }; place = t; r0 = v; r1 = w; r2 = intZero; r3 = intZero; trap = false; links = noPeers; reason = normal }
+stands b t v w = record {
+  stage = Closing;
+  behaviour = record { 0 = b };
+  place = t;
+  r0 = v;
+  r1 = w;
+  r2 = intZero;
+  r3 = intZero;
+  trap = false;
+  links = noPeers;
+  watches = noPeers;
+  watchers = noPeers;
+  reason = normal;
+}
 
 withSlots : Node → List Slot → Node
 withSlots n slots = record { count = n .count; lens = n .lens; ops = n .ops; processes = n .processes; waiting = n .waiting; slots = slots; counts = n .counts; cells = n .cells }

@@ -19,7 +19,7 @@ use Rattle.node.specs.declared.Op.{Op}
 use Rattle.node.specs.declared.Peers.{Peers}
 use Rattle.node.specs.declared.Process.{Process}
 use Rattle.node.specs.declared.Signal.{Signal}
-use Rattle.node.specs.declared.Signal.the-variants.{Msg, Exit, Link, Unlink}
+use Rattle.node.specs.declared.Signal.the-variants.{Msg, Exit, Link, Unlink, Monitor, Demonitor, Down}
 use Rattle.node.specs.declared.Stage.{Stage}
 use Rattle.node.specs.declared.Stage.the-variants.{Unborn, Live, Closing, Gone}
 use Rattle.node.specs.declared.Value.{Value}
@@ -52,29 +52,41 @@ row n j i = signals (blockOf 4 (pair j i) (flightShelf n))
 unfoldable pub setOf : Peers → ℕ → Bool
 setOf s j = isNumber j && has s j
 
--- "live: behaviour number, place (program counter), registers r0 to r3, trap flag, link set, mailbox"
+-- "live: behaviour number, place (program counter), registers r0 to r3, trap flag, link set, mailbox", and the sets of those that it watches
+-- (monitors) and of its watchers
 pub record Running : Type 0 where
   pub behaviour : ℕ
   pub place : ℕ
   pub registers : List Value
   pub trap : Bool
   pub links : ℕ → Bool
+  pub watches : ℕ → Bool
+  pub watchers : ℕ → Bool
   pub mail : List Message
 
--- closing (an exiting process): "reason and link set"; unborn and gone hold nothing
+-- closing (an exiting process): "reason and link set", and its watchers; unborn and gone hold nothing
 pub data Standing : Type 0 where
   unborn : Standing
   live : Running → Standing
-  closing : Value → (ℕ → Bool) → Standing
+  closing : Value → (ℕ → Bool) → (ℕ → Bool) → Standing
   gone : Standing
 
 abbrev pub running : Process → List Message → Running
-running p m = record { behaviour = p .behaviour .0; place = p .place; registers = p .r0 ∷ p .r1 ∷ p .r2 ∷ p .r3 ∷ []; trap = p .trap; links = setOf (p .links); mail = m }
+running p m = record {
+  behaviour = p .behaviour .0;
+  place = p .place;
+  registers = p .r0 ∷ p .r1 ∷ p .r2 ∷ p .r3 ∷ [];
+  trap = p .trap;
+  links = setOf (p .links);
+  watches = setOf (p .watches);
+  watchers = setOf (p .watchers);
+  mail = m;
+}
 
 abbrev pub standingIn : Stage → Process → List Message → Standing
 standingIn Unborn p m = unborn
 standingIn Live p m = live (running p m)
-standingIn Closing p m = closing (p .reason) (setOf (p .links))
+standingIn Closing p m = closing (p .reason) (setOf (p .links)) (setOf (p .watchers))
 standingIn Gone p m = gone
 
 unfoldable pub standing : Process → List Message → Standing
@@ -111,19 +123,22 @@ runningSound codes r =
     && allOf valueSound (r .registers)
     && leb (length (r .mail)) 16 && allOf messageSound (r .mail)
 
--- "no process links itself"
+-- "no process links itself", and none is in either of its own sets of watches and watchers
 abbrev pub standingSound : List (List Instruction) → ℕ → Standing → Bool
 standingSound codes i unborn = true
-standingSound codes i (live r) = runningSound codes r && not (r .links i)
-standingSound codes i (closing v links) = valueSound v && not (links i)
+standingSound codes i (live r) = runningSound codes r && not (r .links i) && not (r .watches i) && not (r .watchers i)
+standingSound codes i (closing v links watchers) = valueSound v && not (links i) && not (watchers i)
 standingSound codes i gone = true
 
--- "no process .. has a link or unlink in flight to itself"
+-- "no process .. has a link or unlink in flight to itself", and no monitor or demonitor
 abbrev pub signalSound : ℕ → ℕ → Signal → Bool
 signalSound j i (Msg v) = valueSound v
 signalSound j i (Exit v b) = valueSound v
 signalSound j i Link = not (eqb j i)
 signalSound j i Unlink = not (eqb j i)
+signalSound j i Monitor = not (eqb j i)
+signalSound j i Demonitor = not (eqb j i)
+signalSound j i (Down v) = valueSound v
 
 -- "For each ordered pair (from, to), itself included, at most 4 signals are in flight"
 unfoldable pub rowSound : ℕ → ℕ → List Signal → Bool

@@ -11,9 +11,10 @@ use Prim.Native.Nat.{ℕ, _+_}
 use lib.Dec.{eqb}
 use lib.ListN.{take, drop}
 use Rattle.node.specs.declared.Message.{Message}
-use Rattle.node.specs.declared.Message.the-variants.{Plain, Note}
+use Rattle.node.specs.declared.Message.the-variants.{Plain, Note, Down}
 use Rattle.node.specs.declared.Op.{Op}
 use Rattle.node.specs.declared.Process.{Process}
+use Rattle.node.specs.declared.ProcessNumber.{ProcessNumber}
 use Rattle.node.specs.declared.Value.{Value}
 use Rattle.node.specs.declared.Value.the-variants.{Pid}
 use Rattle.node.specs.Processes.{withRegister, moved}
@@ -24,8 +25,9 @@ use Rattle.rules.specs.Effects.{State, Effect, leaving}
 abbrev pub isValue : Value → Message → Bool
 isValue w (Plain v) = sameValue v w
 isValue w (Note j v) = false
+isValue w (Down j v) = false
 
--- "k is any (notes too), int, atom, pid, note or one exact V (values only)"
+-- "k is any (notes too), int, atom, pid, note or one exact V (values only)", and down
 unfoldable pub fits : Op → Message → Bool
 fits c m = cond (eqb (c .small) exactKind) (isValue (c .value) m) (eqb (c .small) anyKind || eqb (c .small) (messageKind m))
 
@@ -43,10 +45,14 @@ abbrev pub search : List Op → ℕ → List Message → Option Fit
 search cs i [] = none
 search cs i (m ∷ ms) = firstClause cs i m (search cs (i + 1) ms)
 
--- "A value goes to r; of a note the sender goes to r, then the reason to s"
+-- "A value goes to r; of a note the sender goes to r, then the reason to s", of a down too
+abbrev pub withSender : Process → Op → ProcessNumber → Value → Process
+withSender p c j v = withRegister (withRegister p (c .r) (Pid j)) (c .s) v
+
 abbrev pub withMessage : Process → Op → Message → Process
 withMessage p c (Plain v) = withRegister p (c .r) v
-withMessage p c (Note j v) = withRegister (withRegister p (c .r) (Pid j)) (c .s) v
+withMessage p c (Note j v) = withSender p c j v
+withMessage p c (Down j v) = withSender p c j v
 
 -- "That message leaves, the rest keep their order. .. Place becomes t"
 abbrev pub receivesFit : State → Option Fit → Answer Effect

@@ -20,13 +20,13 @@ use lib.Signed.{ltZ}
 use Rattle.node.specs.declared.Op.{Op}
 use Rattle.node.specs.declared.Process.{Process}
 use Rattle.node.specs.declared.Signal.{Signal}
-use Rattle.node.specs.declared.Signal.the-variants.{Msg, Exit, Link, Unlink}
+use Rattle.node.specs.declared.Signal.the-variants.{Msg, Exit, Link, Unlink, Monitor, Demonitor, Down}
 use Rattle.node.specs.declared.Stage.{Stage}
 use Rattle.node.specs.declared.Stage.the-variants.{Unborn, Live, Closing, Gone}
 use Rattle.node.specs.declared.Value.{Value}
 use Rattle.node.specs.declared.Value.the-variants.{Int, Atom, Pid}
 use Rattle.node.specs.Nodes.{noOp}
-use Rattle.node.specs.Processes.{fresh, register, withRegister, moved, advanced, trapped, linked, unlinked, gone}
+use Rattle.node.specs.Processes.{fresh, register, withRegister, moved, advanced, trapped, linked, unlinked, watching, unwatching, unwatched, gone}
 use Rattle.node.specs.Sets.{lowestPeer}
 use Rattle.node.specs.Values.{normal, badarg, badarith, pid, fitsInt, sameValue}
 use Rattle.rules.specs.Answers.{Answer, refused, done, ownerUnborn, ownerGone}
@@ -69,7 +69,7 @@ processIn (Int z) = none
 processIn (Atom a) = none
 processIn (Pid j) = some (j .0)
 
--- "If r of send, exit, link or unlink holds no p, the process ends with a3, before 26 is looked at"
+-- "If r of send, exit, link or unlink holds no p, the process ends with a3, before 26 is looked at"; of monitor and demonitor too
 abbrev pub toProcess : State → Option ℕ → (ℕ → Answer Effect) → Answer Effect
 toProcess st none f = ends st badarg
 toProcess st (some j) f = f j
@@ -77,7 +77,7 @@ toProcess st (some j) f = f j
 abbrev pub sendsTo : State → Value → (ℕ → Process) → Signal → Answer Effect
 sendsTo st v q x = toProcess st (processIn v) (λ j. sends st (advanced (q j)) j x)
 
--- link and unlink "to itself: nothing"
+-- link, unlink, monitor and demonitor "to itself: nothing"
 abbrev pub toOther : ℕ → State → Value → Answer Effect → Answer Effect
 toOther i st v a = cond (sameValue v (pid i)) (becomes st (advanced (st .process))) a
 
@@ -114,19 +114,23 @@ opTable code i st o =
     ∷ jumpsIf st (sameValue r (o .value)) (o .target)  -- same,r,V,t
     ∷ compares st (o .target) r s  -- less,r,s,t
     ∷ stops st o  -- stop,r
+    ∷ toOther i st r (sendsTo st r (watching p) Monitor)  -- monitor,r
+    ∷ toOther i st r (sendsTo st r (unwatching p) Demonitor)  -- demonitor,r
     ∷ []
 
 -- a number past the table, which no op of a sound node has, is read as stop
 unfoldable pub runsOp : List Op → ℕ → State → Op → Answer Effect
 runsOp code i st o = getD (opTable code i st o) (o .number) (stops st o)
 
--- "sends exit(v,1) to its lowest-numbered link and drops it from the set; with no links it goes gone"
-abbrev pub closesTo : State → ℕ → Answer Effect
-closesTo st zero = becomes st (gone (st .process))
-closesTo st (suc j) = sends st (unlinked (st .process) (suc j)) (suc j) (Exit (st .process .reason) true)
+-- "sends exit(v,1) to its lowest-numbered link and drops it from the set"; then down(v) to its watchers, "one a run, lowest first, after its
+-- exit signals, and goes gone only then"
+abbrev pub closesTo : State → ℕ → ℕ → Answer Effect
+closesTo st (suc j) w = sends st (unlinked (st .process) (suc j)) (suc j) (Exit (st .process .reason) true)
+closesTo st zero (suc j) = sends st (unwatched (st .process) (suc j)) (suc j) (Down (st .process .reason))
+closesTo st zero zero = becomes st (gone (st .process))
 
 unfoldable pub closes : State → Answer Effect
-closes st = closesTo st (lowestPeer (st .process .links))
+closes st = closesTo st (lowestPeer (st .process .links)) (lowestPeer (st .process .watchers))
 
 -- "At place N the process ends with a0. Otherwise the op decides"
 unfoldable pub runsLive : List Op → ℕ → State → Answer Effect

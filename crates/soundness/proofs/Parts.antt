@@ -2,7 +2,7 @@
 --   mailBlocks rowBlocks   the mailboxes, each with the process that it belongs to, and the rows in flight, as blocks to be walked
 --   shaped-node            a node that code holds has its arrays in full
 --   sound-not sound-due    `sound`, where the behaviours are not sound, and where they are: then the blocks give it
-use mathlib.Core.Bool.{Bool, true, false, So, _&&_, not, cond, and-assoc, and-comm, and-true, and-eq-true-iff}
+use mathlib.Core.Bool.{Bool, true, false, So, _&&_, not, cond, and-assoc, and-comm, and-true, and-false, and-eq-true-iff}
 use mathlib.Core.List.{List, [], _∷_, map, flatMap}
 use mathlib.Core.Path.{_≡_, refl, sym, _∙_, ap}
 use Prim.Native.Nat.{ℕ, zero, suc, _+_, _-_, _*_, _/_, _%_, _≤_, _<_}
@@ -18,6 +18,7 @@ use Rattle.node.specs.declared.Cell.{Cell}
 use Rattle.node.specs.declared.Message.{Message}
 use Rattle.node.specs.declared.Node.{Node}
 use Rattle.node.specs.declared.Op.{Op}
+use Rattle.node.specs.declared.Peers.{Peers}
 use Rattle.node.specs.declared.Process.{Process}
 use Rattle.node.specs.declared.Signal.{Signal}
 use Rattle.node.specs.declared.Slot.{Slot}
@@ -29,7 +30,8 @@ use Rattle.node.specs.Mailboxes.{messages, noMessage}
 use Rattle.node.specs.Nodes.{flightShelf, mailShelf, noOp, noProcess}
 use Rattle.node.specs.Ops.{clauseOp}
 use Rattle.node.specs.Rows.{noSignal, signals}
-use Rattle.node.specs.Processes.{linksTo, mailCount}
+use Rattle.node.specs.Processes.{linksTo, watchesOver, watchedBy, mailCount}
+use Rattle.node.specs.Sets.{has}
 use Rattle.node.specs.Values.{isNumber, messageSound, numbers, valueSound}
 use Rattle.node.proofs.Good.{sized-node}
 use Rattle.node.proofs.Lists.{allFrom-rising, allOf-append}
@@ -97,16 +99,20 @@ end-is : (t n : ℕ) (u : Bool) → eqb t n ≡ u → n ≤ t → leb t n ≡ eq
 end-is t n true e h = rw e (le-leb t n (omega (arith, eqb-true t n e)))
 end-is t n false e h = rw e (lt-leb t n (let d = eqb-false t n e in omega arith))
 
--- the tests of `runningSound`, and then that of the links, in the order of the code
-swap : (p r l m n : Bool) → (p && r && l && m && n) ≡ (r && p && n && (l && m))
-swap false false l m n = refl
-swap false true l m n = refl
-swap true false l m n = refl
-swap true true l m n = and-comm (l && m) n
+-- the tests of `runningSound`, and then those of the sets, in the order of the code
+swap : (p r l m n w v : Bool) → (p && r && l && m && n && w && v) ≡ (r && p && n && w && v && (l && m))
+swap false false l m n w v = refl
+swap false true l m n w v = refl
+swap true false l m n w v = refl
+swap true true l m n w v = go (l && m)
+  where
+    go : (x : Bool) → (x && n && w && v) ≡ (n && w && v && x)
+    go true = sym (and-true (n && w && v))
+    go false = sym (and-false (n && w && v))
 
-links-is : (p : Process) (i : ℕ) → isNumber i ≡ true → setOf (p .links) i ≡ linksTo p i
-unfolding setOf linksTo
-links-is p i h = rw h
+set-is : (s : Peers) (i : ℕ) → isNumber i ≡ true → setOf s i ≡ has s i
+unfolding setOf
+set-is s i h = rw h
 
 module _ (c : ℕ) (lens : List ℕ) (ops : List Op) (few : c ≤ 8) (all : So (allOf (codeSound c) (codesIn c lens ops))) where
   abbrev codes : List (List Instruction)
@@ -153,18 +159,19 @@ module _ (c : ℕ) (lens : List ℕ) (ops : List Op) (few : c ≤ 8) (all : So (
 
     running-told : (m : List Message) (u : Bool) → (leb 1 (p .behaviour .0) && leb (p .behaviour .0) c) ≡ u → standingSound codes i (live (running p m))
         ≡ (told Live && (leb (length m) 16 && allOf messageSound m))
-    unfolding runningSound runningTold
+    unfolding runningSound runningTold linksTo watchesOver watchedBy
     running-told m false e = rw (codes-length c lens ops, e)
     running-told m true e =
-        rw (codes-length c lens ops, e, code-is p e, code-length (n p e) ops (b p e), length-is p e, place-is p e _ refl, links-is p i number)
-        (swap _ (allOf valueSound (p .r0 ∷ p .r1 ∷ p .r2 ∷ p .r3 ∷ [])) (leb (length m) 16) (allOf messageSound m) (not (linksTo p i)))
+        rw (codes-length c lens ops, e, code-is p e, code-length (n p e) ops (b p e), length-is p e, place-is p e _ refl, set-is _ i number, set-is _ i number, set-is _ i number)
+        (swap _ (allOf valueSound (p .r0 ∷ p .r1 ∷ p .r2 ∷ p .r3 ∷ [])) (leb (length m) 16) (allOf messageSound m) _ _ _)
 
     -- what its stage does not hold of the mailbox, the first w slots of l, is not looked at
     standing-told : (s : Stage) (w : ℕ) (l : List Slot) → standingSound codes i (standingIn s p (mail w l))
         ≡ (told s && (leb (length (mail (mailCount s w) l)) 16 && allOf messageSound (mail (mailCount s w) l)))
+    unfolding linksTo watchedBy
     standing-told Unborn w l = refl
     standing-told Live w l = running-told (mail w l) _ refl
-    standing-told Closing w l = rw (links-is p i number) (sym (and-true (valueSound (p .reason) && not (linksTo p i))))
+    standing-told Closing w l = rw (set-is (p .links) i number, set-is (p .watchers) i number) (sym (and-true (valueSound (p .reason) && not (has (p .links) i) && not (has (p .watchers) i))))
     standing-told Gone w l = refl
 
 -- ---- rows

@@ -14,7 +14,7 @@ use Rattle.node.specs.declared.Stage.{Stage}
 use Rattle.node.specs.declared.Stage.the-variants.{Unborn, Live, Closing, Gone}
 use Rattle.node.specs.Lists.{allOf}
 use Rattle.node.specs.Ops.{clauseOp}
-use Rattle.node.specs.Processes.{linksTo}
+use Rattle.node.specs.Processes.{linksTo, watchesOver, watchedBy}
 use Rattle.node.specs.Values.{valueSound}
 
 abbrev pub lengthIn : List ℕ → Process → ℕ
@@ -32,8 +32,8 @@ runningTold c n there p =
 
 abbrev pub standingTold : Stage → ℕ → ℕ → ℕ → ℕ → Process → Bool
 standingTold Unborn c n there i p = true
-standingTold Live c n there i p = runningTold c n there p && not (linksTo p i)
-standingTold Closing c n there i p = valueSound (p .reason) && not (linksTo p i)
+standingTold Live c n there i p = runningTold c n there p && not (linksTo p i) && not (watchesOver p i) && not (watchedBy p i)
+standingTold Closing c n there i p = valueSound (p .reason) && not (linksTo p i) && not (watchedBy p i)
 standingTold Gone c n there i p = true
 
 -- no signal is in flight in the pairs from a to b, by their counts

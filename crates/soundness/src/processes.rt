@@ -19,14 +19,23 @@ pub fn process_sound(i: ProcessNumber, p: Process, count: u8, lens: [u8; 8], the
             if !running_sound(p, count, lens, there) {
                 return false;
             }
-            !p.links_to(i)
+            if p.links_to(i) {
+                return false;
+            }
+            if p.watches_over(i) {
+                return false;
+            }
+            !p.watched_by(i)
         }
         Stage::Closing => {
             let reason = p.reason;
             if !value_sound(reason) {
                 return false;
             }
-            !p.links_to(i)
+            if p.links_to(i) {
+                return false;
+            }
+            !p.watched_by(i)
         }
         Stage::Gone => true,
     }

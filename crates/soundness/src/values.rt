@@ -1,13 +1,15 @@
 // Messages, signals and registers within their limits.
+ghost use mathlib.Core.Bool.{_&&_};
 ghost use mathlib.Core.List.{[], _∷_};
 ghost use mathlib.Core.Path.{_≡_};
 ghost use Rattle.node.specs.Lists.{allOf};
-ghost use Rattle.node.specs.Values.{messageSound, valueSound};
+ghost use Rattle.node.specs.Values.{isNumber, messageSound, valueSound};
 ghost use Rattle.rules.specs.Nodes.{signalSound};
 use node::Message;
 use node::Process;
 use node::ProcessNumber;
 use node::Signal;
+use node::Value;
 use node::is_number;
 use node::value_sound;
 
@@ -16,14 +18,20 @@ pub fn message_sound(m: Message) -> bool
 {
     match m {
         Message::Plain(v) => value_sound(v),
-        Message::Note(j, v) => {
-            let i = j.0;
-            if !is_number(i) {
-                return false;
-            }
-            value_sound(v)
-        }
+        Message::Note(j, v) => told_sound(j, v),
+        Message::Down(j, v) => told_sound(j, v),
     }
+}
+
+// A sender and its reason.
+fn told_sound(j: ProcessNumber, v: Value) -> bool
+    ensures { λ r. ⌜ r ≡ (isNumber (j .0) && valueSound v) ⌝ }
+{
+    let i = j.0;
+    if !is_number(i) {
+        return false;
+    }
+    value_sound(v)
 }
 
 // A signal from process j to process i.
@@ -35,6 +43,9 @@ pub fn signal_sound(j: ProcessNumber, i: ProcessNumber, x: Signal) -> bool
         Signal::Exit(v, _) => value_sound(v),
         Signal::Link => j.0 != i.0,
         Signal::Unlink => j.0 != i.0,
+        Signal::Monitor => j.0 != i.0,
+        Signal::Demonitor => j.0 != i.0,
+        Signal::Down(v) => value_sound(v),
     }
 }
 

@@ -1,25 +1,32 @@
 -- Words as numbers, by which the code looks a word up.
---   packed w       the bytes of w as digits in base 256, the first of them the lowest, with a 1 behind the last
---   longWord       past the numbers of all words of up to six bytes; a number is held here
---   PackedAs w r   r is the number of w, held there; and w is made of bytes
+--   isLetter b     b is a small letter
+--   isWord w       w is made of at most nine small letters, as every word of a plan is
+--   packed w       the letters of w as digits in base 32, a being 1, the first of them the lowest, with a 1 behind the last
+--   longWord       past the numbers of all words
+--   wordNumber w   the number of a word; longWord for a text that is none
 --   placeOf k ks   which of the numbers ks is k, from 0; how many there are, where none is
-use mathlib.Core.Bool.{cond}
+use mathlib.Core.Bool.{Bool, _&&_, cond}
 use mathlib.Core.List.{List, [], _∷_}
-use mathlib.Core.Path.{_≡_}
-use Prim.Native.Nat.{ℕ, suc, _+_, _*_, _<_, min}
-use lib.Dec.{eqb}
-use lib.ListN.{getD}
+use Prim.Native.Nat.{ℕ, suc, _+_, _-_, _*_}
+use lib.Dec.{eqb, leb}
+use lib.ListN.{length}
+use Rattle.node.specs.Lists.{allOf}
+
+abbrev pub isLetter : ℕ → Bool
+isLetter b = leb 97 b && leb b 122
+
+abbrev pub isWord : List ℕ → Bool
+isWord w = leb (length w) 9 && allOf isLetter w
 
 unfoldable pub packed : List ℕ → ℕ
 packed [] = 1
-packed (b ∷ l) = b + 256 * packed l
+packed (b ∷ l) = (b - 96) + 32 * packed l
 
 abbrev pub longWord : ℕ
-longWord = 72057594037927936
+longWord = 1125899906842624
 
-pub record PackedAs (w : List ℕ) (r : ℕ) : Type 0 where
-  pub is : r ≡ min (packed w) longWord
-  pub bytes : (k : ℕ) → getD w k 0 < 256
+unfoldable pub wordNumber : List ℕ → ℕ
+wordNumber w = cond (isWord w) (packed w) longWord
 
 unfoldable pub placeOf : ℕ → List ℕ → ℕ
 placeOf k [] = 0

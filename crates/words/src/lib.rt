@@ -1,24 +1,31 @@
 // Words as numbers, and their places in a table of numbers.
 ghost use mathlib.Core.Path.{_≡_};
-ghost use Prim.Native.Nat.{_+_, _*_, min};
-ghost use Rattle.words.specs.Words.{longWord, PackedAs, placeOf};
+ghost use Prim.Native.Nat.{_+_, _-_, _*_, _≤_, min};
+ghost use Rattle.words.specs.Words.{longWord, wordNumber, placeOf};
 
-// Past the number of every word that is looked up.
-const LONG_WORD: u64 = 0x100_0000_0000_0000;
+// Past the number of every word.
+const LONG_WORD: u64 = 0x4_0000_0000_0000;
 
-// A word as one number, by which it is looked up: its bytes as digits in base 256, the first of them the lowest, with a 1 behind the last.
-// A value stands where a clause's word may stand, so that most long texts are no words: they are not read.
+// A word as one number, by which it is looked up: its letters as digits in base 32, a being 1, the first of them the lowest, with a 1 behind
+// the last. A text that is longer than every word, or has a byte that is no small letter, is none: a clause's value stands where its word may
+// stand, and is not read here.
 pub fn word_code(word: &[u8]) -> u64
-    ensures { λ r. ⌜ PackedAs (now (word .entry)) r ⌝ }
+    ensures { λ r. ⌜ r ≡ wordNumber (now (word .entry)) ⌝ }
 {
-    if 6 < word.len() {
+    if 9 < word.len() {
         return LONG_WORD;
     }
     let mut code: u64 = 1;
     let mut k = word.len();
     while 0 < k {
         k -= 1;
-        code = with_byte(code, word[k]);
+        if word[k] < b'a' {
+            return LONG_WORD;
+        }
+        if b'z' < word[k] {
+            return LONG_WORD;
+        }
+        code = with_letter(code, word[k]);
     }
     code
 }
@@ -37,14 +44,15 @@ pub fn place_of(numbers: &[u64], n: u64) -> usize
     k
 }
 
-// A number with one digit more, held past the numbers of all words.
-fn with_byte(code: u64, b: u8) -> u64
-    ensures { λ r. ⌜ r ≡ min (b + 256 * code) longWord ⌝ }
+// A number with one letter more, held past the numbers of all words.
+fn with_letter(code: u64, b: u8) -> u64
+    requires { ⌜ 97 ≤ b ⌝ }
+    ensures { λ r. ⌜ r ≡ min ((b - 96) + 32 * code) longWord ⌝ }
 {
     if LONG_WORD <= code {
         return LONG_WORD;
     }
-    let n = (b as u64) + 256 * code;
+    let n = ((b - 96) as u64) + 32 * code;
     if LONG_WORD < n {
         return LONG_WORD;
     }

@@ -1,6 +1,6 @@
 //! Compares the bytes of the proved library, and of the built program, with those of the second interpreter:
 //! `compare PROGRAM SEED LIBRARY_CASES PROGRAM_CASES`. Prints what the cases reached, and fails at the first difference or where
-//! something that document 01 names was reached by no case.
+//! something that documents 01 and 02 name was reached by no case.
 
 use second::Coverage;
 use std::fs::{self, File as Open};

@@ -1,7 +1,8 @@
 //! Counts of what a batch of cases reached, so that a thin batch is seen.
 
 use crate::node::{
-    Clause, Message, Node, Op, Pattern, Signal, Stage, Value, MAILBOX_LIMIT, PAIR_LIMIT, PROCESSES,
+    Clause, Live, Message, Node, Op, Pattern, Signal, Stage, Value, MAILBOX_LIMIT, NOPROC,
+    PAIR_LIMIT, PROCESSES,
 };
 use crate::plan::{op_word, OPERANDS};
 use crate::step::{self, Effect, Step};
@@ -16,10 +17,22 @@ pub const REFUSALS: [u8; 15] = [10, 11, 12, 13, 14, 15, 20, 21, 22, 23, 24, 25, 
 /// The stages; an unborn process is counted where a listing leaves it out.
 pub const STAGES: [&str; 4] = ["unborn", "live", "closing", "gone"];
 
+/// The words of signals in listings.
+pub const SIGNALS: [&str; 7] = [
+    "msg",
+    "exit",
+    "link",
+    "unlink",
+    "monitor",
+    "demonitor",
+    "down",
+];
+
 /// Finer events, in the order of the table. A count of an event that is not here is a mistake.
-pub const DETAILS: [&str; 77] = [
+pub const DETAILS: [&str; 115] = [
     "run at place N",
     "closing told a link",
+    "closing told a watcher",
     "closing went gone",
     "add ended with a4, overflow",
     "add ended with a4, kinds",
@@ -28,6 +41,8 @@ pub const DETAILS: [&str; 77] = [
     "exit ended with a3",
     "link ended with a3",
     "unlink ended with a3",
+    "monitor ended with a3",
+    "demonitor ended with a3",
     "less ended with a3",
     "less to its target",
     "less not to its target",
@@ -35,28 +50,53 @@ pub const DETAILS: [&str; 77] = [
     "same not to its target",
     "link to itself",
     "unlink to itself",
+    "monitor to itself",
+    "demonitor to itself",
     "send to itself",
     "exit to itself",
+    "monitor of a watched process",
+    "demonitor of a process not watched",
     "signal sent to an unborn process",
+    "monitor sent to an unborn process",
+    "demonitor sent to an unborn process",
     "spawn of a process with signals waiting",
+    "spawn of a process with a monitor waiting",
     "clause any took a value",
     "clause any took a note",
+    "clause any took a down",
     "clause int fitted",
     "clause atom fitted",
     "clause pid fitted",
     "clause note fitted",
+    "clause down fitted",
     "clause exact value fitted",
     "clause with r = s took a note",
+    "clause with r = s took a down",
+    "clause note passed over a down",
+    "clause down passed over a note",
+    "clause exact value passed over a down",
     "recv passed over a message",
     "msg joined",
     "link added",
     "link at a full mailbox",
     "unlink taken",
     "unlink at a full mailbox",
+    "monitor taken",
+    "monitor at a full mailbox",
+    "demonitor taken",
+    "demonitor at a full mailbox",
+    "down joined",
+    "down joined, a5",
+    "down dropped unwatched",
+    "down dropped unwatched at a full mailbox",
+    "monitor answered at closing",
+    "monitor answered at gone",
     "msg dropped at closing or gone",
     "exit dropped at closing or gone",
     "link dropped at closing or gone",
     "unlink dropped at closing or gone",
+    "demonitor dropped at closing or gone",
+    "down dropped at closing or gone",
     "line 1 at a full mailbox",
     "line 2, trap 0",
     "line 2, trap 1",
@@ -79,20 +119,30 @@ pub const DETAILS: [&str; 77] = [
     "21 arrive, signal waits",
     "24 msg",
     "24 note",
+    "24 down",
     "25 empty mailbox",
     "25 mail without a fit",
     "26 send",
     "26 exit",
     "26 link",
     "26 unlink",
-    "26 closing",
+    "26 monitor",
+    "26 demonitor",
+    "26 closing, link",
+    "26 closing, watcher",
+    "26 arrive, monitor at closing",
+    "26 arrive, monitor at gone",
     "26 pair with itself",
     "27 itself",
     "27 another",
     "listing with mail=16",
     "listing with a note",
+    "listing with a down",
     "listing with a pair of 4",
     "listing with two links or more",
+    "listing with watches",
+    "listing with two watchers or more",
+    "listing of a closing process with watchers",
     "play of 0 steps",
     "play of 4,096 steps accepted",
 ];
@@ -105,8 +155,8 @@ pub struct Coverage {
     /// Index 0 is line 1.
     pub exit_lines: [u64; 5],
     pub stages: [u64; 4],
-    /// signal=msg, signal=exit, signal=link, signal=unlink in listings.
-    pub listed_signals: [u64; 4],
+    /// The lines `signal=` of listings, by SIGNALS.
+    pub listed_signals: [u64; 7],
     pub details: BTreeMap<&'static str, u64>,
     pub cases: u64,
     pub accepted_steps: u64,
@@ -120,7 +170,7 @@ impl Default for Coverage {
             refusals: REFUSALS.iter().map(|&number| (number, 0)).collect(),
             exit_lines: [0; 5],
             stages: [0; 4],
-            listed_signals: [0; 4],
+            listed_signals: [0; 7],
             details: DETAILS.iter().map(|&name| (name, 0)).collect(),
             cases: 0,
             accepted_steps: 0,
@@ -191,8 +241,7 @@ impl Coverage {
         for (name, &count) in STAGES.iter().zip(&self.stages) {
             rows.push((format!("stage {name}"), count));
         }
-        let signals = ["msg", "exit", "link", "unlink"];
-        for (name, &count) in signals.iter().zip(&self.listed_signals) {
+        for (name, &count) in SIGNALS.iter().zip(&self.listed_signals) {
             rows.push((format!("listed signal {name}"), count));
         }
         for name in DETAILS {
@@ -222,16 +271,29 @@ impl Coverage {
         let index = match stage {
             Stage::Unborn => 0,
             Stage::Live(_) => 1,
-            Stage::Closing { .. } => 2,
+            Stage::Closing(_) => 2,
             Stage::Gone => 3,
         };
         self.stages[index] += 1;
-        let Stage::Live(live) = stage else { return };
-        let is_note = |message: &Message| matches!(message, Message::Note { .. });
+        match stage {
+            Stage::Live(live) => self.count_live(live),
+            Stage::Closing(closing) => {
+                let watched = !closing.watchers.is_empty();
+                self.detail_if(watched, "listing of a closing process with watchers");
+            }
+            Stage::Unborn | Stage::Gone => {}
+        }
+    }
+
+    fn count_live(&mut self, live: &Live) {
         let full = live.mailbox.len() == MAILBOX_LIMIT;
         self.detail_if(full, "listing with mail=16");
         self.detail_if(live.mailbox.iter().any(is_note), "listing with a note");
+        self.detail_if(live.mailbox.iter().any(is_down), "listing with a down");
         self.detail_if(live.links.len() > 1, "listing with two links or more");
+        self.detail_if(!live.watches.is_empty(), "listing with watches");
+        let watchers = live.watchers.len();
+        self.detail_if(watchers > 1, "listing with two watchers or more");
     }
 
     fn count_flight(&mut self, signals: &[Signal]) {
@@ -242,6 +304,9 @@ impl Coverage {
                 Signal::Exit { .. } => 1,
                 Signal::Link => 2,
                 Signal::Unlink => 3,
+                Signal::Monitor => 4,
+                Signal::Demonitor => 5,
+                Signal::Down(_) => 6,
             };
             self.listed_signals[index] += 1;
         }
@@ -252,14 +317,34 @@ impl Coverage {
         match effect {
             Effect::EndOfCode => self.detail("run at place N"),
             Effect::ToldLink => self.detail("closing told a link"),
+            Effect::ToldWatcher => self.detail("closing told a watcher"),
             Effect::WentGone => self.detail("closing went gone"),
-            Effect::Ran { op, registers } => self.count_op(node, owner, op, registers),
+            Effect::Ran {
+                op,
+                registers,
+                watched,
+            } => {
+                self.count_op(node, owner, op, registers);
+                self.count_watch(op, registers, owner, watched);
+            }
             Effect::Received {
                 clause,
                 message,
                 index,
-            } => self.count_received(clause, message, index),
+            } => {
+                let passed = &node.live(owner).mailbox[..index];
+                self.count_received(clause, message, passed);
+            }
             Effect::DroppedAtEnded(signal) => self.count_dropped(signal),
+            Effect::DroppedUnwatched => {
+                let full = node.live(owner).mailbox.len() == MAILBOX_LIMIT;
+                self.detail("down dropped unwatched");
+                self.detail_if(full, "down dropped unwatched at a full mailbox");
+            }
+            Effect::ToldNoproc => self.detail(match node.stage(owner) {
+                Stage::Gone => "monitor answered at gone",
+                _ => "monitor answered at closing",
+            }),
             Effect::Taken(signal) => self.count_taken(node, owner, signal),
             Effect::ExitLine {
                 line,
@@ -301,12 +386,20 @@ impl Coverage {
             Op::Less(..) => self.detail("less not to its target"),
             Op::Same(_, _, target) if live.place == target => self.detail("same to its target"),
             Op::Same(..) => self.detail("same not to its target"),
-            Op::Send(r, _) | Op::Exit(r, _) | Op::Link(r) | Op::Unlink(r) => {
+            Op::Send(r, _)
+            | Op::Exit(r, _)
+            | Op::Link(r)
+            | Op::Unlink(r)
+            | Op::Monitor(r)
+            | Op::Demonitor(r) => {
                 self.count_sending(node, owner, op, live.registers[r]);
             }
             Op::Spawn { process, .. } => {
-                let waiting = node.flights().any(|(_, to, _)| to == process);
-                self.detail_if(waiting, "spawn of a process with signals waiting");
+                let waiting = || node.flights().filter(|&(_, to, _)| to == process);
+                let monitor = waiting().any(|(_, _, row)| row.contains(&Signal::Monitor));
+                let signals = waiting().next().is_some();
+                self.detail_if(signals, "spawn of a process with signals waiting");
+                self.detail_if(monitor, "spawn of a process with a monitor waiting");
             }
             _ => {}
         }
@@ -316,6 +409,11 @@ impl Coverage {
         let Value::Pid(to) = addressee else { return };
         if *node.stage(to) == Stage::Unborn {
             self.detail("signal sent to an unborn process");
+            match op {
+                Op::Monitor(_) => self.detail("monitor sent to an unborn process"),
+                Op::Demonitor(_) => self.detail("demonitor sent to an unborn process"),
+                _ => {}
+            }
         }
         if to != owner {
             return;
@@ -324,8 +422,22 @@ impl Coverage {
             Op::Send(..) => "send to itself",
             Op::Exit(..) => "exit to itself",
             Op::Link(_) => "link to itself",
-            _ => "unlink to itself",
+            Op::Unlink(_) => "unlink to itself",
+            Op::Monitor(_) => "monitor to itself",
+            _ => "demonitor to itself",
         });
+    }
+
+    /// A monitor of a process that was watched before, a demonitor of one that was not.
+    fn count_watch(&mut self, op: Op, before: [Value; 4], owner: u8, watched: bool) {
+        match op {
+            Op::Monitor(_) => self.detail_if(watched, "monitor of a watched process"),
+            Op::Demonitor(r) if !watched => {
+                let another = matches!(before[r], Value::Pid(other) if other != owner);
+                self.detail_if(another, "demonitor of a process not watched");
+            }
+            _ => {}
+        }
     }
 
     fn count_op_that_ended(&mut self, op: Op, before: [Value; 4]) {
@@ -337,27 +449,40 @@ impl Coverage {
             Op::Exit(..) => self.detail("exit ended with a3"),
             Op::Link(_) => self.detail("link ended with a3"),
             Op::Unlink(_) => self.detail("unlink ended with a3"),
+            Op::Monitor(_) => self.detail("monitor ended with a3"),
+            Op::Demonitor(_) => self.detail("demonitor ended with a3"),
             Op::Less(..) => self.detail("less ended with a3"),
             _ => {}
         }
     }
 
-    fn count_received(&mut self, clause: Clause, message: Message, index: usize) {
+    /// A clause took a message; these stood before it in the mailbox and fitted no clause.
+    fn count_received(&mut self, clause: Clause, message: Message, passed: &[Message]) {
         self.count_word(Op::Recv(1));
         self.count_word(Op::Clause(clause));
-        let is_note = matches!(message, Message::Note { .. });
+        let (note, down) = (is_note(&message), is_down(&message));
         self.detail(match clause.pattern {
-            Pattern::Any if is_note => "clause any took a note",
+            Pattern::Any if note => "clause any took a note",
+            Pattern::Any if down => "clause any took a down",
             Pattern::Any => "clause any took a value",
             Pattern::Int => "clause int fitted",
             Pattern::Atom => "clause atom fitted",
             Pattern::Pid => "clause pid fitted",
             Pattern::Note => "clause note fitted",
+            Pattern::Down => "clause down fitted",
             Pattern::Exact(_) => "clause exact value fitted",
         });
-        let one_register = is_note && clause.r == clause.s;
-        self.detail_if(one_register, "clause with r = s took a note");
-        self.detail_if(index > 0, "recv passed over a message");
+        let one_register = clause.r == clause.s;
+        self.detail_if(one_register && note, "clause with r = s took a note");
+        self.detail_if(one_register && down, "clause with r = s took a down");
+        self.detail_if(!passed.is_empty(), "recv passed over a message");
+        let (a_note, a_down) = (passed.iter().any(is_note), passed.iter().any(is_down));
+        match clause.pattern {
+            Pattern::Note => self.detail_if(a_down, "clause note passed over a down"),
+            Pattern::Down => self.detail_if(a_note, "clause down passed over a note"),
+            Pattern::Exact(_) => self.detail_if(a_down, "clause exact value passed over a down"),
+            _ => {}
+        }
     }
 
     fn count_dropped(&mut self, signal: Signal) {
@@ -366,6 +491,9 @@ impl Coverage {
             Signal::Exit { .. } => "exit dropped at closing or gone",
             Signal::Link => "link dropped at closing or gone",
             Signal::Unlink => "unlink dropped at closing or gone",
+            Signal::Demonitor => "demonitor dropped at closing or gone",
+            Signal::Down(_) => "down dropped at closing or gone",
+            Signal::Monitor => panic!("a monitor was dropped"),
         });
     }
 
@@ -380,7 +508,19 @@ impl Coverage {
                 self.detail("unlink taken");
                 self.detail_if(full, "unlink at a full mailbox");
             }
-            _ => self.detail("msg joined"),
+            Signal::Monitor => {
+                self.detail("monitor taken");
+                self.detail_if(full, "monitor at a full mailbox");
+            }
+            Signal::Demonitor => {
+                self.detail("demonitor taken");
+                self.detail_if(full, "demonitor at a full mailbox");
+            }
+            Signal::Down(reason) => {
+                self.detail("down joined");
+                self.detail_if(reason == NOPROC, "down joined, a5");
+            }
+            Signal::Msg(_) | Signal::Exit { .. } => self.detail("msg joined"),
         }
     }
 
@@ -451,9 +591,14 @@ impl Coverage {
                 let first = node.flight(from, to).first();
                 self.detail(match first {
                     Some(Signal::Msg(_)) => "24 msg",
+                    Some(Signal::Down(_)) => "24 down",
                     _ => "24 note",
                 });
             }
+            (step::PAIR_FULL, Step::Arrive { to, .. }) => self.detail(match node.stage(to) {
+                Stage::Gone => "26 arrive, monitor at gone",
+                _ => "26 arrive, monitor at closing",
+            }),
             (step::NO_FIT | step::PAIR_FULL | step::NOT_UNBORN, Step::Run(process)) => {
                 self.count_run_refusal(node, process);
             }
@@ -463,8 +608,12 @@ impl Coverage {
 
     /// Counts a refusal of 25, 26 or 27 by the op, or the closing process, that met it.
     fn count_run_refusal(&mut self, node: &Node, process: u8) {
-        if matches!(node.stage(process), Stage::Closing { .. }) {
-            self.detail("26 closing");
+        if let Stage::Closing(closing) = node.stage(process) {
+            self.detail(if closing.links.is_empty() {
+                "26 closing, watcher"
+            } else {
+                "26 closing, link"
+            });
             return;
         }
         let live = node.live(process);
@@ -482,6 +631,8 @@ impl Coverage {
             }
             Some(Op::Link(_)) => self.detail("26 link"),
             Some(Op::Unlink(_)) => self.detail("26 unlink"),
+            Some(Op::Monitor(_)) => self.detail("26 monitor"),
+            Some(Op::Demonitor(_)) => self.detail("26 demonitor"),
             Some(Op::Spawn {
                 process: spawned, ..
             }) => {
@@ -494,6 +645,14 @@ impl Coverage {
             _ => {}
         }
     }
+}
+
+fn is_note(message: &Message) -> bool {
+    matches!(message, Message::Note { .. })
+}
+
+fn is_down(message: &Message) -> bool {
+    matches!(message, Message::Down { .. })
 }
 
 impl fmt::Display for Coverage {

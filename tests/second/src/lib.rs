@@ -1,5 +1,6 @@
-//! A second interpreter of document 01 (the open garage node), with a seeded generator of cases.
-//! It shares no code and no tables with the proved crates, so that the two can be compared.
+//! A second interpreter of document 01 (the open garage node) and of request M-100 of document 02,
+//! with a seeded generator of cases. It shares no code and no tables with the proved crates, so that
+//! the two can be compared.
 
 pub mod arguments;
 pub mod cases;

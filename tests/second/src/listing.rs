@@ -1,6 +1,6 @@
 //! The listing of a node.
 
-use crate::node::{Live, Message, Node, Signal, Stage, Value, PROCESSES};
+use crate::node::{Closing, Live, Message, Node, Signal, Stage, Value, PROCESSES};
 use std::collections::BTreeSet;
 use std::fmt::Write;
 
@@ -36,11 +36,12 @@ fn write_process(process: u8, stage: &Stage, out: &mut String) {
     match stage {
         Stage::Unborn => {}
         Stage::Live(live) => write_live(live, out),
-        Stage::Closing { reason, links } => write_closing(*reason, links, out),
+        Stage::Closing(closing) => write_closing(closing, out),
         Stage::Gone => line!(out, "stage=gone"),
     }
 }
 
+/// "`watches=` and `watchers=` after a live process's links"
 fn write_live(live: &Live, out: &mut String) {
     line!(out, "stage=live");
     line!(out, "behaviour={}", live.behaviour);
@@ -49,23 +50,27 @@ fn write_live(live: &Live, out: &mut String) {
         line!(out, "r{number}={value}");
     }
     line!(out, "trap={}", u8::from(live.trap));
-    write_links(&live.links, out);
+    write_set("links", &live.links, out);
+    write_set("watches", &live.watches, out);
+    write_set("watchers", &live.watchers, out);
     write_mailbox(&live.mailbox, out);
 }
 
-fn write_closing(reason: Value, links: &BTreeSet<u8>, out: &mut String) {
+/// "`watchers=` after a closing one's"
+fn write_closing(closing: &Closing, out: &mut String) {
     line!(out, "stage=closing");
-    line!(out, "reason={reason}");
-    write_links(links, out);
+    line!(out, "reason={}", closing.reason);
+    write_set("links", &closing.links, out);
+    write_set("watchers", &closing.watchers, out);
 }
 
-/// "links are rising numbers with commas"
-fn write_links(links: &BTreeSet<u8>, out: &mut String) {
-    let numbers: Vec<String> = links.iter().map(u8::to_string).collect();
-    line!(out, "links={}", numbers.join(","));
+/// "links are rising numbers with commas"; so are the two sets of watching.
+fn write_set(key: &str, processes: &BTreeSet<u8>, out: &mut String) {
+    let numbers: Vec<String> = processes.iter().map(u8::to_string).collect();
+    line!(out, "{key}={}", numbers.join(","));
 }
 
-/// "`mail=n` is followed by n lines `message=V` or `note=p,V`"
+/// "`mail=n` is followed by n lines `message=V` or `note=p,V`"; "`down=p,V` among messages"
 fn write_mailbox(mailbox: &[Message], out: &mut String) {
     line!(out, "mail={}", mailbox.len());
     for message in mailbox {
@@ -75,12 +80,15 @@ fn write_mailbox(mailbox: &[Message], out: &mut String) {
             Message::Note { sender, reason } => {
                 line!(out, "note={},{reason}", Value::Pid(*sender));
             }
+            Message::Down { sender, reason } => {
+                line!(out, "down={},{reason}", Value::Pid(*sender));
+            }
         }
     }
 }
 
 /// "A pair: `flight=from,to,n`, then `signal=msg,V`, `signal=exit,V,b`, `signal=link`,
-/// `signal=unlink`."
+/// `signal=unlink`."; "and `signal=monitor`, `signal=demonitor`, `signal=down,V`"
 fn write_flight(from: u8, to: u8, signals: &[Signal], out: &mut String) {
     line!(out, "flight={from},{to},{}", signals.len());
     for signal in signals {
@@ -91,6 +99,9 @@ fn write_flight(from: u8, to: u8, signals: &[Signal], out: &mut String) {
             }
             Signal::Link => line!(out, "signal=link"),
             Signal::Unlink => line!(out, "signal=unlink"),
+            Signal::Monitor => line!(out, "signal=monitor"),
+            Signal::Demonitor => line!(out, "signal=demonitor"),
+            Signal::Down(reason) => line!(out, "signal=down,{reason}"),
         }
     }
 }

@@ -1,4 +1,5 @@
-//! The node of document 01: values, messages, signals, ops, processes and the signals in flight.
+//! The node of document 01 and of request M-100 of document 02: values, messages, signals, ops,
+//! processes and the signals in flight.
 
 use std::collections::{BTreeMap, BTreeSet};
 use std::fmt;
@@ -25,6 +26,8 @@ pub const KILL: Value = Value::Atom(1);
 pub const KILLED: Value = Value::Atom(2);
 pub const BADARG: Value = Value::Atom(3);
 pub const BADARITH: Value = Value::Atom(4);
+/// "down(a5), noproc"
+pub const NOPROC: Value = Value::Atom(5);
 
 impl fmt::Display for Value {
     fn fmt(&self, out: &mut fmt::Formatter<'_>) -> fmt::Result {
@@ -36,23 +39,29 @@ impl fmt::Display for Value {
     }
 }
 
-/// "A message is a value or a note (sender, reason)."
+/// "A message is a value or a note (sender, reason)."; "message and clause kind `down`"
 #[derive(Clone, Copy, Debug, PartialEq, Eq)]
 pub enum Message {
     Value(Value),
     Note { sender: u8, reason: Value },
+    Down { sender: u8, reason: Value },
 }
 
-/// "A signal is msg(value), exit(reason, linked 0 or 1), link or unlink."
+/// "A signal is msg(value), exit(reason, linked 0 or 1), link or unlink."; "signals monitor,
+/// demonitor and down(reason)"
 #[derive(Clone, Copy, Debug, PartialEq, Eq)]
 pub enum Signal {
     Msg(Value),
     Exit { reason: Value, linked: bool },
     Link,
     Unlink,
+    Monitor,
+    Demonitor,
+    Down(Value),
 }
 
-/// "k is any (notes too), int, atom, pid, note or one exact V (values only)"
+/// "k is any (notes too), int, atom, pid, note or one exact V (values only)"; "message and clause
+/// kind `down`"
 #[derive(Clone, Copy, Debug, PartialEq, Eq)]
 pub enum Pattern {
     Any,
@@ -60,6 +69,7 @@ pub enum Pattern {
     Atom,
     Pid,
     Note,
+    Down,
     Exact(Value),
 }
 
@@ -72,7 +82,7 @@ pub struct Clause {
     pub target: usize,
 }
 
-/// The ops in the order of the document's table.
+/// The ops in the order of the document's table, then "ops `monitor,r` and `demonitor,r`".
 #[derive(Clone, Copy, Debug, PartialEq, Eq)]
 pub enum Op {
     Set(usize, Value),
@@ -95,10 +105,13 @@ pub enum Op {
     Same(usize, Value, usize),
     Less(usize, usize, usize),
     Stop(usize),
+    Monitor(usize),
+    Demonitor(usize),
 }
 
 /// "live: behaviour number, place (0 to N), registers r0 to r3, trap flag, link set, mailbox of at
-/// most 16 messages in order of arrival"
+/// most 16 messages in order of arrival"; "Each live process gains a set of those it watches and a
+/// set of its watchers"
 #[derive(Clone, Debug, PartialEq, Eq)]
 pub struct Live {
     pub behaviour: u8,
@@ -106,12 +119,15 @@ pub struct Live {
     pub registers: [Value; 4],
     pub trap: bool,
     pub links: BTreeSet<u8>,
+    pub watches: BTreeSet<u8>,
+    pub watchers: BTreeSet<u8>,
     pub mailbox: Vec<Message>,
 }
 
 impl Live {
     /// "process q goes live in behaviour b, place 0, its r0 the spawner's number, other registers
-    /// i0, no links, trap 0, no mail"; "started processes are as spawned, r0 being i0"
+    /// i0, no links, trap 0, no mail"; "started processes are as spawned, r0 being i0"; the two
+    /// sets of watching are "both empty when it is started or spawned"
     pub fn fresh(behaviour: u8, r0: Value) -> Live {
         let zero = Value::Int(0);
         Live {
@@ -120,9 +136,19 @@ impl Live {
             registers: [r0, zero, zero, zero],
             trap: false,
             links: BTreeSet::new(),
+            watches: BTreeSet::new(),
+            watchers: BTreeSet::new(),
             mailbox: Vec::new(),
         }
     }
+}
+
+/// "closing: reason and link set"; "An ended process keeps its watchers"
+#[derive(Clone, Debug, PartialEq, Eq)]
+pub struct Closing {
+    pub reason: Value,
+    pub links: BTreeSet<u8>,
+    pub watchers: BTreeSet<u8>,
 }
 
 /// "Each process is in one stage"
@@ -130,13 +156,13 @@ impl Live {
 pub enum Stage {
     Unborn,
     Live(Live),
-    Closing { reason: Value, links: BTreeSet<u8> },
+    Closing(Closing),
     Gone,
 }
 
 /// A whole node. "Equal nodes have equal behaviours, stages, contents of each stage (link sets as
-/// sets) and in-flight rows": this is the derived equality, because a pair without signals has no
-/// entry in `flights`.
+/// sets) and in-flight rows"; "Two lists compared for their end now compare these sets too": this
+/// is the derived equality, because a pair without signals has no entry in `flights`.
 #[derive(Clone, Debug, PartialEq, Eq)]
 pub struct Node {
     /// Behaviour number b is at index b - 1.

@@ -181,8 +181,9 @@ pub enum Operand {
     Pattern,
 }
 
-/// The operands of each op word, in the order of the document's table.
-pub const OPERANDS: [(&str, &[Operand]); 16] = [
+/// The operands of each op word, in the order of the document's table, then "ops `monitor,r` and
+/// `demonitor,r`".
+pub const OPERANDS: [(&str, &[Operand]); 18] = [
     ("set", &[Operand::Register, Operand::Value]),
     ("copy", &[Operand::Register, Operand::Register]),
     ("self", &[Operand::Register]),
@@ -213,6 +214,8 @@ pub const OPERANDS: [(&str, &[Operand]); 16] = [
         &[Operand::Register, Operand::Register, Operand::Place],
     ),
     ("stop", &[Operand::Register]),
+    ("monitor", &[Operand::Register]),
+    ("demonitor", &[Operand::Register]),
 ];
 
 /// The operands of a word, or None when there is no such op.
@@ -273,7 +276,7 @@ fn read_value(text: &[u8]) -> Option<Written> {
     Some(Written::Value(letter, number(digits)?))
 }
 
-/// "k is any (notes too), int, atom, pid, note or one exact V"
+/// "k is any (notes too), int, atom, pid, note or one exact V"; "message and clause kind `down`"
 fn read_pattern(text: &[u8]) -> Option<Written> {
     match text {
         b"any" => Some(Written::Kind(Pattern::Any)),
@@ -281,6 +284,7 @@ fn read_pattern(text: &[u8]) -> Option<Written> {
         b"atom" => Some(Written::Kind(Pattern::Atom)),
         b"pid" => Some(Written::Kind(Pattern::Pid)),
         b"note" => Some(Written::Kind(Pattern::Note)),
+        b"down" => Some(Written::Kind(Pattern::Down)),
         _ => read_value(text),
     }
 }
@@ -366,6 +370,8 @@ fn make_op(word: &[u8], written: &[Written]) -> Op {
         (b"same", [r, v, t]) => Op::Same(r.index(), v.value(), t.index()),
         (b"less", [r, s, t]) => Op::Less(r.index(), s.index(), t.index()),
         (b"stop", [r]) => Op::Stop(r.index()),
+        (b"monitor", [r]) => Op::Monitor(r.index()),
+        (b"demonitor", [r]) => Op::Demonitor(r.index()),
         _ => panic!("a word and operands that the checks let pass"),
     }
 }
@@ -456,6 +462,8 @@ pub fn op_word(op: Op) -> &'static str {
         Op::Same(..) => "same",
         Op::Less(..) => "less",
         Op::Stop(_) => "stop",
+        Op::Monitor(_) => "monitor",
+        Op::Demonitor(_) => "demonitor",
     }
 }
 
@@ -467,7 +475,12 @@ pub fn op_text(op: Op) -> String {
         Op::Copy(r, s) | Op::Add(r, s) | Op::Send(r, s) | Op::Exit(r, s) => {
             format!("{word},{r},{s}")
         }
-        Op::SelfNumber(r) | Op::Link(r) | Op::Unlink(r) | Op::Stop(r) => format!("{word},{r}"),
+        Op::SelfNumber(r)
+        | Op::Link(r)
+        | Op::Unlink(r)
+        | Op::Stop(r)
+        | Op::Monitor(r)
+        | Op::Demonitor(r) => format!("{word},{r}"),
         Op::Trap(flag) => format!("{word},{}", u8::from(flag)),
         Op::Spawn {
             r,
@@ -494,6 +507,7 @@ fn pattern_text(pattern: Pattern) -> String {
         Pattern::Atom => "atom".to_string(),
         Pattern::Pid => "pid".to_string(),
         Pattern::Note => "note".to_string(),
+        Pattern::Down => "down".to_string(),
         Pattern::Exact(value) => value.to_string(),
     }
 }

@@ -1,5 +1,5 @@
 //! The check of demand 3: a reordering of accepted steps that keeps each owner's order gives an
-//! equal node.
+//! equal node; "Two lists compared for their end now compare these sets [of watching] too".
 
 use crate::cases::{plans, schedules};
 use crate::listing;

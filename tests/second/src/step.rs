@@ -1,10 +1,11 @@
-//! The step rules of document 01, sections "Steps" and "The three hands".
+//! The step rules of document 01, sections "Steps" and "The three hands", and of request M-100 of
+//! document 02.
 //! Every function looks for a refusal first and changes the node only afterwards, because "A
 //! refused step leaves the node unchanged".
 
 use crate::node::{
-    Clause, Live, Message, Node, Op, Pattern, Signal, Stage, Value, BADARG, BADARITH, KILL, KILLED,
-    MAILBOX_LIMIT, NORMAL, PROCESSES,
+    Clause, Closing, Live, Message, Node, Op, Pattern, Signal, Stage, Value, BADARG, BADARITH,
+    KILL, KILLED, MAILBOX_LIMIT, NOPROC, NORMAL, PROCESSES,
 };
 
 /// "A step is `run i` or `arrive i from j`; its owner is i."
@@ -38,8 +39,13 @@ pub const NOT_UNBORN: u8 = 27;
 pub enum Effect {
     /// A live process at place N ended.
     EndOfCode,
-    /// A live process ran an op other than recv; its registers were these before.
-    Ran { op: Op, registers: [Value; 4] },
+    /// A live process ran an op other than recv; its registers were these before, and `watched`
+    /// tells whether it watched the process that a monitor or demonitor names.
+    Ran {
+        op: Op,
+        registers: [Value; 4],
+        watched: bool,
+    },
     /// A live process ran recv and this clause took this message, so far at this index.
     Received {
         clause: Clause,
@@ -48,12 +54,18 @@ pub enum Effect {
     },
     /// A closing process sent its exit reason to a link.
     ToldLink,
-    /// A closing process without links went gone.
+    /// A closing process without links sent its reason to a watcher.
+    ToldWatcher,
+    /// A closing process without links and watchers went gone.
     WentGone,
-    /// A signal reached a closing or a gone process.
+    /// A signal other than monitor reached a closing or a gone process.
     DroppedAtEnded(Signal),
-    /// A msg, link or unlink signal reached a live process.
+    /// A monitor signal reached a closing or a gone process, which told that it has ended.
+    ToldNoproc,
+    /// A signal other than exit reached a live process and was taken.
     Taken(Signal),
+    /// A down signal reached a live process that does not watch the sender.
+    DroppedUnwatched,
     /// An exit signal reached a live process, whose trap flag was this, and this line, 1 to 5,
     /// applied.
     ExitLine {
@@ -96,7 +108,7 @@ fn run(node: &mut Node, process: u8) -> Result<Effect, u8> {
     match node.stage(process) {
         Stage::Unborn => Err(OWNER_UNBORN),
         Stage::Live(_) => run_live(node, process),
-        Stage::Closing { .. } => run_closing(node, process),
+        Stage::Closing(_) => run_closing(node, process),
         // "22 run of a gone process"
         Stage::Gone => Err(RUN_OF_GONE),
     }
@@ -109,7 +121,8 @@ fn run_live(node: &mut Node, process: u8) -> Result<Effect, u8> {
         end(node, process, NORMAL);
         return Ok(Effect::EndOfCode);
     };
-    let registers = node.live(process).registers;
+    let live = node.live(process);
+    let (registers, watched) = (live.registers, watches_addressee(live, op));
     match op {
         Op::Set(r, value) => set(node, process, r, value),
         Op::Copy(r, s) => copy(node, process, r, s),
@@ -132,8 +145,22 @@ fn run_live(node: &mut Node, process: u8) -> Result<Effect, u8> {
         Op::Same(r, value, target) => same(node, process, r, value, target),
         Op::Less(r, s, target) => less(node, process, r, s, target),
         Op::Stop(r) => stop(node, process, r),
+        Op::Monitor(r) => monitor(node, process, r)?,
+        Op::Demonitor(r) => demonitor(node, process, r)?,
     }
-    Ok(Effect::Ran { op, registers })
+    Ok(Effect::Ran {
+        op,
+        registers,
+        watched,
+    })
+}
+
+/// Whether a process watches the one that its op, a monitor or a demonitor, names.
+fn watches_addressee(live: &Live, op: Op) -> bool {
+    let (Op::Monitor(r) | Op::Demonitor(r)) = op else {
+        return false;
+    };
+    matches!(live.registers[r], Value::Pid(other) if live.watches.contains(&other))
 }
 
 fn register(node: &Node, process: u8, r: usize) -> Value {
@@ -213,31 +240,48 @@ fn send_to_register(node: &mut Node, process: u8, r: usize, signal: Signal) -> R
     Ok(())
 }
 
-/// "link,r: adds r to own links, sends link; to itself: nothing"
+/// "link,r: adds r to own links, sends link"
 fn link(node: &mut Node, process: u8, r: usize) -> Result<(), u8> {
-    let Some(other) = addressee(node, process, r) else {
-        end(node, process, BADARG);
-        return Ok(());
-    };
-    if other != process {
-        check_room(node, process, other)?;
-        node.live_mut(process).links.insert(other);
-        node.push_signal(process, other, Signal::Link);
-    }
-    rise(node, process);
-    Ok(())
+    let join = |own: &mut Live, other: u8| own.links.insert(other);
+    send_to_another(node, process, r, Signal::Link, join)
 }
 
-/// "unlink,r: takes r from own links, sends unlink; to itself: nothing"
+/// "unlink,r: takes r from own links, sends unlink"
 fn unlink(node: &mut Node, process: u8, r: usize) -> Result<(), u8> {
+    let leave = |own: &mut Live, other: u8| own.links.remove(&other);
+    send_to_another(node, process, r, Signal::Unlink, leave)
+}
+
+/// "Monitor adds the target to the first set and sends"; the first set is "of those it watches"
+fn monitor(node: &mut Node, process: u8, r: usize) -> Result<(), u8> {
+    let join = |own: &mut Live, other: u8| own.watches.insert(other);
+    send_to_another(node, process, r, Signal::Monitor, join)
+}
+
+/// "demonitor removes and sends"
+fn demonitor(node: &mut Node, process: u8, r: usize) -> Result<(), u8> {
+    let leave = |own: &mut Live, other: u8| own.watches.remove(&other);
+    send_to_another(node, process, r, Signal::Demonitor, leave)
+}
+
+/// Changes one of the process's own sets by the addressee, and sends. Of link and unlink: "to
+/// itself: nothing"; of monitor and demonitor: "to itself both do nothing; r without a p ends with
+/// a3".
+fn send_to_another(
+    node: &mut Node,
+    process: u8,
+    r: usize,
+    signal: Signal,
+    change: fn(&mut Live, u8) -> bool,
+) -> Result<(), u8> {
     let Some(other) = addressee(node, process, r) else {
         end(node, process, BADARG);
         return Ok(());
     };
     if other != process {
         check_room(node, process, other)?;
-        node.live_mut(process).links.remove(&other);
-        node.push_signal(process, other, Signal::Unlink);
+        change(node.live_mut(process), other);
+        node.push_signal(process, other, signal);
     }
     rise(node, process);
     Ok(())
@@ -290,7 +334,8 @@ fn stop(node: &mut Node, process: u8, r: usize) {
 }
 
 /// "The next n ops are its clauses". "That message leaves, the rest keep their order. A value goes
-/// to r; of a note the sender goes to r, then the reason to s. Place becomes t."
+/// to r; of a note the sender goes to r, then the reason to s. Place becomes t."; "24 and recv treat
+/// it [a down] like a note"
 fn recv(node: &mut Node, process: u8, count: usize) -> Result<Effect, u8> {
     // "25 recv without a fit"
     let (index, clause) = first_fit(node, process, count).ok_or(NO_FIT)?;
@@ -298,7 +343,7 @@ fn recv(node: &mut Node, process: u8, count: usize) -> Result<Effect, u8> {
     let message = live.mailbox.remove(index);
     match message {
         Message::Value(value) => live.registers[clause.r] = value,
-        Message::Note { sender, reason } => {
+        Message::Note { sender, reason } | Message::Down { sender, reason } => {
             live.registers[clause.r] = Value::Pid(sender);
             live.registers[clause.s] = reason;
         }
@@ -328,11 +373,13 @@ fn first_fit(node: &Node, process: u8, count: usize) -> Option<(usize, Clause)> 
     None
 }
 
-/// "k is any (notes too), int, atom, pid, note or one exact V (values only)"
+/// "k is any (notes too), int, atom, pid, note or one exact V (values only)"; "24 and recv treat it
+/// [a down] like a note, its kind being `down`"
 fn fits(pattern: Pattern, message: &Message) -> bool {
     match (pattern, message) {
         (Pattern::Any, _) => true,
         (Pattern::Note, Message::Note { .. }) => true,
+        (Pattern::Down, Message::Down { .. }) => true,
         (Pattern::Int, Message::Value(Value::Int(_))) => true,
         (Pattern::Atom, Message::Value(Value::Atom(_))) => true,
         (Pattern::Pid, Message::Value(Value::Pid(_))) => true,
@@ -342,48 +389,71 @@ fn fits(pattern: Pattern, message: &Message) -> bool {
 }
 
 /// "Ending with v: the process goes closing with reason v and its links unchanged; registers and
-/// mail are lost."
+/// mail are lost."; "An ended process keeps its watchers"
 fn end(node: &mut Node, process: u8, reason: Value) {
-    let links = node.live(process).links.clone();
-    node.set_stage(process, Stage::Closing { reason, links });
+    let live = node.live(process);
+    let closing = Closing {
+        reason,
+        links: live.links.clone(),
+        watchers: live.watchers.clone(),
+    };
+    node.set_stage(process, Stage::Closing(closing));
 }
 
 /// "Run, closing: sends exit(v,1) to its lowest-numbered link and drops it from the set; with no
-/// links it goes gone."
+/// links it goes gone."; "closing, it sends them [its watchers] down with its reason, one a run,
+/// lowest first, after its exit signals, and goes gone only then"
 fn run_closing(node: &mut Node, process: u8) -> Result<Effect, u8> {
-    let Stage::Closing { reason, links } = node.stage(process) else {
+    let Stage::Closing(closing) = node.stage(process) else {
         panic!("process {process} is not closing");
     };
-    let (reason, mut links) = (*reason, links.clone());
-    let Some(lowest) = links.pop_first() else {
+    let mut closing = closing.clone();
+    let reason = closing.reason;
+    let (lowest, signal, effect) = if let Some(link) = closing.links.pop_first() {
+        let exit = Signal::Exit {
+            reason,
+            linked: true,
+        };
+        (link, exit, Effect::ToldLink)
+    } else if let Some(watcher) = closing.watchers.pop_first() {
+        (watcher, Signal::Down(reason), Effect::ToldWatcher)
+    } else {
         node.set_stage(process, Stage::Gone);
         return Ok(Effect::WentGone);
     };
     check_room(node, process, lowest)?;
-    let signal = Signal::Exit {
-        reason,
-        linked: true,
-    };
     node.push_signal(process, lowest, signal);
-    node.set_stage(process, Stage::Closing { reason, links });
-    Ok(Effect::ToldLink)
+    node.set_stage(process, Stage::Closing(closing));
+    Ok(effect)
 }
 
-/// "Arrive takes the oldest signal from j to i. Closing or gone i: the signal is dropped."
+/// "Arrive takes the oldest signal from j to i."
 fn arrive(node: &mut Node, to: u8, from: u8) -> Result<Effect, u8> {
     // "23 none in flight"
     let signal = *node.flight(from, to).first().ok_or(NONE_IN_FLIGHT)?;
     let effect = match node.stage(to) {
         Stage::Unborn => return Err(OWNER_UNBORN),
-        Stage::Closing { .. } | Stage::Gone => Effect::DroppedAtEnded(signal),
+        Stage::Closing(_) | Stage::Gone => arrive_ended(node, to, from, signal)?,
         Stage::Live(_) => arrive_live(node, to, from, signal)?,
     };
     node.remove_oldest(from, to);
     Ok(effect)
 }
 
+/// "Closing or gone i: the signal is dropped."; "Monitor arriving at a closing or gone process puts
+/// down(a5), noproc, in flight back, so 26 can now meet an arrival."
+fn arrive_ended(node: &mut Node, to: u8, from: u8, signal: Signal) -> Result<Effect, u8> {
+    if signal != Signal::Monitor {
+        return Ok(Effect::DroppedAtEnded(signal));
+    }
+    check_room(node, to, from)?;
+    node.push_signal(to, from, Signal::Down(NOPROC));
+    Ok(Effect::ToldNoproc)
+}
+
 /// "Live i: msg joins the mailbox; link adds j; unlink removes j; exit(v,b), first line that
-/// applies"
+/// applies"; "Monitor arriving at a live process adds the sender to its watchers; demonitor removes
+/// it."
 fn arrive_live(node: &mut Node, to: u8, from: u8, signal: Signal) -> Result<Effect, u8> {
     match signal {
         Signal::Msg(value) => join_mailbox(node, to, Message::Value(value))?,
@@ -393,12 +463,34 @@ fn arrive_live(node: &mut Node, to: u8, from: u8, signal: Signal) -> Result<Effe
         Signal::Unlink => {
             node.live_mut(to).links.remove(&from);
         }
+        Signal::Monitor => {
+            node.live_mut(to).watchers.insert(from);
+        }
+        Signal::Demonitor => {
+            node.live_mut(to).watchers.remove(&from);
+        }
         Signal::Exit { reason, linked } => return arrive_exit(node, to, from, reason, linked),
+        Signal::Down(reason) => return arrive_down(node, to, from, reason),
     }
     Ok(Effect::Taken(signal))
 }
 
-/// "24 mailbox full where a message or note would join"
+/// "Down joins the mailbox and ends the watch only if the watch still stands; else it is dropped."
+fn arrive_down(node: &mut Node, to: u8, from: u8, reason: Value) -> Result<Effect, u8> {
+    if !node.live(to).watches.contains(&from) {
+        return Ok(Effect::DroppedUnwatched);
+    }
+    let down = Message::Down {
+        sender: from,
+        reason,
+    };
+    join_mailbox(node, to, down)?;
+    node.live_mut(to).watches.remove(&from);
+    Ok(Effect::Taken(Signal::Down(reason)))
+}
+
+/// "24 mailbox full where a message or note would join"; "24 and recv treat it [a down] like a
+/// note"
 fn join_mailbox(node: &mut Node, process: u8, message: Message) -> Result<(), u8> {
     let mailbox = &mut node.live_mut(process).mailbox;
     if mailbox.len() >= MAILBOX_LIMIT {

@@ -10,7 +10,7 @@ code=2\nop=recv,1\nop=clause,int,0,1,2\nstarts=2\nstart=1,1\nstart=2,2\n";
 /// A live process in behaviour b at place t with fresh registers, as `process` shows it.
 fn fresh(behaviour: u8, place: usize) -> String {
     format!(
-        "stage=live behaviour={behaviour} place={place} r0=i0 r1=i0 r2=i0 r3=i0 trap=0 links= mail=0"
+        "stage=live behaviour={behaviour} place={place} r0=i0 r1=i0 r2=i0 r3=i0 trap=0 links= watches= watchers= mail=0"
     )
 }
 
@@ -26,8 +26,8 @@ fn p1_no_steps() {
 #[test]
 fn p2_the_listing() {
     let expected = "accepted=5\nrefused=0\nprocess=1\nstage=live\nbehaviour=1\nplace=3\nr0=p2\n\
-r1=i12\nr2=i0\nr3=i0\ntrap=0\nlinks=\nmail=0\nprocess=2\nstage=live\nbehaviour=2\nplace=2\n\
-r0=i12\nr1=i0\nr2=i0\nr3=i0\ntrap=0\nlinks=\nmail=0\n";
+r1=i12\nr2=i0\nr3=i0\ntrap=0\nlinks=\nwatches=\nwatchers=\nmail=0\nprocess=2\nstage=live\nbehaviour=2\nplace=2\n\
+r0=i12\nr1=i0\nr2=i0\nr3=i0\ntrap=0\nlinks=\nwatches=\nwatchers=\nmail=0\n";
     assert_eq!(run(SAMPLE, "run=1 run=1 run=1 arrive=2,1 run=2"), expected);
 }
 
@@ -48,7 +48,7 @@ fn p3_normal_exit_from_itself_ends() {
     let text = plan(&[&["self,0", "set,1,a0", "exit,0,1"]], &[(3, 1)]);
     let out = run(&text, "run=3 run=3 run=3 arrive=3,3");
     assert_eq!(answer(&out), "accepted=4 refused=0");
-    assert_eq!(process(&out, 3), "stage=closing reason=a0 links=");
+    assert_eq!(process(&out, 3), "stage=closing reason=a0 links= watchers=");
 }
 
 #[test]
@@ -58,7 +58,7 @@ fn p4_kill_ends_a_trapping_process_with_killed() {
         &[(1, 1), (2, 2)],
     );
     let out = run(&text, "run=2 run=1 run=1 run=1 arrive=2,1");
-    assert_eq!(process(&out, 2), "stage=closing reason=a2 links=");
+    assert_eq!(process(&out, 2), "stage=closing reason=a2 links= watchers=");
 }
 
 /// Process 1 links process 2 and stops with a reason; process 2 runs its first op.
@@ -76,17 +76,20 @@ const LINKED_STOP_STEPS: &str = "run=2 run=1 run=1 arrive=2,1 run=1 run=1 run=1 
 fn p4_linked_kill_gives_a_trapping_process_a_note() {
     let out = run(&linked_stop("a1", "trap,1"), LINKED_STOP_STEPS);
     assert_eq!(answer(&out), "accepted=8 refused=0");
-    assert_eq!(process(&out, 1), "stage=closing reason=a1 links=");
+    assert_eq!(process(&out, 1), "stage=closing reason=a1 links= watchers=");
     assert_eq!(
         process(&out, 2),
-        "stage=live behaviour=2 place=1 r0=i0 r1=i0 r2=i0 r3=i0 trap=1 links= mail=1 note=p1,a1"
+        "stage=live behaviour=2 place=1 r0=i0 r1=i0 r2=i0 r3=i0 trap=1 links= watches= watchers= mail=1 note=p1,a1"
     );
 }
 
 #[test]
 fn p5_linked_kill_ends_with_kill() {
     let out = run(&linked_stop("a1", "trap,0"), LINKED_STOP_STEPS);
-    assert_eq!(process(&out, 2), "stage=closing reason=a1 links=1");
+    assert_eq!(
+        process(&out, 2),
+        "stage=closing reason=a1 links=1 watchers="
+    );
 }
 
 #[test]
@@ -94,7 +97,7 @@ fn linked_normal_exit_is_dropped_and_the_link_stays() {
     let out = run(&linked_stop("a0", "trap,0"), LINKED_STOP_STEPS);
     assert_eq!(
         process(&out, 2),
-        "stage=live behaviour=2 place=1 r0=i0 r1=i0 r2=i0 r3=i0 trap=0 links=1 mail=0"
+        "stage=live behaviour=2 place=1 r0=i0 r1=i0 r2=i0 r3=i0 trap=0 links=1 watches= watchers= mail=0"
     );
 }
 
@@ -112,7 +115,7 @@ fn p6_exit_without_the_link_is_dropped() {
     assert_eq!(answer(&out), "accepted=10 refused=0");
     assert_eq!(
         process(&out, 2),
-        "stage=live behaviour=2 place=3 r0=p1 r1=i0 r2=i0 r3=i0 trap=1 links= mail=0"
+        "stage=live behaviour=2 place=3 r0=p1 r1=i0 r2=i0 r3=i0 trap=1 links= watches= watchers= mail=0"
     );
     assert_eq!(flights(&out), "flight=2,1,1 signal=unlink");
 }
@@ -121,13 +124,13 @@ fn p6_exit_without_the_link_is_dropped() {
 fn p7_sum_outside_i_ends_with_badarith() {
     let over = plan(&[&["set,0,i2147483647", "set,1,i1", "add,0,1"]], &[(1, 1)]);
     let out = run(&over, "run=1 run=1 run=1");
-    assert_eq!(process(&out, 1), "stage=closing reason=a4 links=");
+    assert_eq!(process(&out, 1), "stage=closing reason=a4 links= watchers=");
     let under = plan(
         &[&["set,0,i-2147483648", "set,1,i-1", "add,0,1"]],
         &[(1, 1)],
     );
     let out = run(&under, "run=1 run=1 run=1");
-    assert_eq!(process(&out, 1), "stage=closing reason=a4 links=");
+    assert_eq!(process(&out, 1), "stage=closing reason=a4 links= watchers=");
 }
 
 #[test]
@@ -136,7 +139,7 @@ fn p7_sum_at_the_limit_stands() {
     let out = run(&text, "run=1 run=1");
     assert_eq!(
         process(&out, 1),
-        "stage=live behaviour=1 place=2 r0=i2147483647 r1=i0 r2=i0 r3=i0 trap=0 links= mail=0"
+        "stage=live behaviour=1 place=2 r0=i2147483647 r1=i0 r2=i0 r3=i0 trap=0 links= watches= watchers= mail=0"
     );
 }
 
@@ -172,7 +175,7 @@ fn p8_mailbox_of_16_refuses_a_message_and_takes_a_link() {
     let words = flood_steps(16) + "run=3 run=3 arrive=2,3";
     let out = run(&flood(), &words);
     assert_eq!(answer(&out), "accepted=52 refused=0");
-    assert!(process(&out, 2).contains("links=3 mail=16"));
+    assert!(process(&out, 2).contains("links=3 watches= watchers= mail=16"));
 }
 
 #[test]
@@ -200,7 +203,7 @@ fn p10_messages_are_tried_before_clauses() {
     assert_eq!(answer(&out), "accepted=8 refused=0");
     assert_eq!(
         process(&out, 2),
-        "stage=live behaviour=2 place=0 r0=i0 r1=i0 r2=i5 r3=i0 trap=0 links= mail=1 message=a7"
+        "stage=live behaviour=2 place=0 r0=i0 r1=i0 r2=i5 r3=i0 trap=0 links= watches= watchers= mail=1 message=a7"
     );
 }
 
@@ -216,7 +219,7 @@ fn spawn_of_itself() {
 fn closing_without_links_run_twice() {
     let text = plan(&[&["stop,0"]], &[(1, 1)]);
     let out = run(&text, "run=1");
-    assert_eq!(process(&out, 1), "stage=closing reason=i0 links=");
+    assert_eq!(process(&out, 1), "stage=closing reason=i0 links= watchers=");
     let out = run(&text, "run=1 run=1 run=1");
     assert_eq!(out, "accepted=2\nrefused=22\nprocess=1\nstage=gone\n");
 }
@@ -225,7 +228,7 @@ fn closing_without_links_run_twice() {
 fn end_of_code_ends_with_normal() {
     let text = plan(&[&["trap,0"]], &[(1, 1)]);
     let out = run(&text, "run=1 run=1");
-    assert_eq!(process(&out, 1), "stage=closing reason=a0 links=");
+    assert_eq!(process(&out, 1), "stage=closing reason=a0 links= watchers=");
 }
 
 #[test]
@@ -241,7 +244,7 @@ fn signals_wait_for_an_unborn_process() {
     assert_eq!(answer(&out), "accepted=4 refused=0");
     assert_eq!(
         process(&out, 2),
-        "stage=live behaviour=2 place=0 r0=p1 r1=i0 r2=i0 r3=i0 trap=0 links= mail=1 message=p2"
+        "stage=live behaviour=2 place=0 r0=p1 r1=i0 r2=i0 r3=i0 trap=0 links= watches= watchers= mail=1 message=p2"
     );
     assert!(process(&out, 1).contains("place=3 r0=p2 r1=p2"));
 }
@@ -259,9 +262,11 @@ fn note_goes_to_r_then_s() {
     };
     let words = "run=2 run=1 run=1 run=1 arrive=2,1 run=2";
     let out = run(&code("clause,note,2,3,0"), words);
-    assert!(process(&out, 2).contains("place=0 r0=i0 r1=i0 r2=p1 r3=a9 trap=1 links= mail=0"));
+    assert!(process(&out, 2)
+        .contains("place=0 r0=i0 r1=i0 r2=p1 r3=a9 trap=1 links= watches= watchers= mail=0"));
     let out = run(&code("clause,any,2,2,0"), words);
-    assert!(process(&out, 2).contains("place=0 r0=i0 r1=i0 r2=a9 r3=i0 trap=1 links= mail=0"));
+    assert!(process(&out, 2)
+        .contains("place=0 r0=i0 r1=i0 r2=a9 r3=i0 trap=1 links= watches= watchers= mail=0"));
     let out = run(&code("clause,a9,2,2,0"), words);
     assert_eq!(answer(&out), "accepted=5 refused=25");
 }
@@ -274,7 +279,10 @@ fn closing_tells_the_lowest_link_first() {
     );
     let words = "run=1 run=1 run=1 run=1 run=1 run=1";
     let out = run(&text, words);
-    assert_eq!(process(&out, 1), "stage=closing reason=p3 links=9");
+    assert_eq!(
+        process(&out, 1),
+        "stage=closing reason=p3 links=9 watchers="
+    );
     assert_eq!(
         flights(&out),
         "flight=1,3,2 signal=link signal=exit,p3,1 flight=1,9,1 signal=link"
@@ -290,7 +298,7 @@ fn link_and_unlink_of_itself_do_nothing() {
     let out = run(&text, "run=1 run=1 run=1");
     assert_eq!(
         process(&out, 1),
-        "stage=live behaviour=1 place=3 r0=p1 r1=i0 r2=i0 r3=i0 trap=0 links= mail=0"
+        "stage=live behaviour=1 place=3 r0=p1 r1=i0 r2=i0 r3=i0 trap=0 links= watches= watchers= mail=0"
     );
     assert_eq!(flights(&out), "");
 }
@@ -316,15 +324,28 @@ fn refused_link_adds_nothing() {
     );
     let out = run(&text, &"run=1 ".repeat(6));
     assert_eq!(answer(&out), "accepted=5 refused=26");
-    assert!(process(&out, 1).contains("place=5 r0=p2 r1=i0 r2=i0 r3=i0 trap=0 links= mail=0"));
+    assert!(process(&out, 1)
+        .contains("place=5 r0=p2 r1=i0 r2=i0 r3=i0 trap=0 links= watches= watchers= mail=0"));
 }
 
 #[test]
 fn no_process_number_ends_with_badarg_before_26() {
-    for op in ["send,1,0", "exit,1,0", "link,1", "unlink,1"] {
+    let senders = [
+        "send,1,0",
+        "exit,1,0",
+        "link,1",
+        "unlink,1",
+        "monitor,1",
+        "demonitor,1",
+    ];
+    for op in senders {
         let text = plan(&[&[op]], &[(1, 1)]);
         let out = run(&text, "run=1");
-        assert_eq!(process(&out, 1), "stage=closing reason=a3 links=", "{op}");
+        assert_eq!(
+            process(&out, 1),
+            "stage=closing reason=a3 links= watchers=",
+            "{op}"
+        );
     }
 }
 
@@ -336,7 +357,7 @@ fn less_and_same_compare() {
     assert!(process(&run(&text, "run=1"), 1).contains("place=1"));
     let text = plan(&[&["set,0,a1", "less,0,1,0"]], &[(1, 1)]);
     let out = run(&text, "run=1 run=1");
-    assert_eq!(process(&out, 1), "stage=closing reason=a3 links=");
+    assert_eq!(process(&out, 1), "stage=closing reason=a3 links= watchers=");
     let text = plan(&[&["set,0,p1", "same,0,i1,0", "same,0,p1,0"]], &[(1, 1)]);
     assert!(process(&run(&text, "run=1 run=1"), 1).contains("place=2"));
     assert!(process(&run(&text, "run=1 run=1 run=1"), 1).contains("place=0"));
@@ -346,7 +367,7 @@ fn less_and_same_compare() {
 fn add_of_other_kinds_ends_with_badarith() {
     let text = plan(&[&["set,0,p1", "add,1,0"]], &[(1, 1)]);
     let out = run(&text, "run=1 run=1");
-    assert_eq!(process(&out, 1), "stage=closing reason=a4 links=");
+    assert_eq!(process(&out, 1), "stage=closing reason=a4 links= watchers=");
 }
 
 #[test]
@@ -357,7 +378,7 @@ fn trapped_exit_from_a_link_keeps_the_link_when_not_linked() {
     );
     let words = "run=2 run=1 run=1 run=1 run=1 arrive=2,1 arrive=2,1";
     let out = run(&text, words);
-    assert!(process(&out, 2).ends_with("trap=1 links=1 mail=1 note=p1,a0"));
+    assert!(process(&out, 2).ends_with("trap=1 links=1 watches= watchers= mail=1 note=p1,a0"));
 }
 
 #[test]

@@ -18,7 +18,9 @@ fn operand_counts_are_those_of_the_document() {
         .iter()
         .map(|(_, operands)| operands.len())
         .collect();
-    assert_eq!(counts, [2, 2, 1, 2, 2, 2, 1, 1, 1, 3, 1, 4, 1, 3, 3, 1]);
+    let document_01 = [2, 2, 1, 2, 2, 2, 1, 1, 1, 3, 1, 4, 1, 3, 3, 1];
+    let monitor_and_demonitor = [1, 1];
+    assert_eq!(counts, [&document_01[..], &monitor_and_demonitor].concat());
 }
 
 #[test]
@@ -103,5 +105,8 @@ fn full_nodes_have_long_listings() {
         assert!(out.len() >= 30_000, "case {k}: {} bytes", out.len());
         assert_eq!(out.matches("mail=16\n").count(), 16);
         assert!(out.matches("flight=").count() >= 200);
+        for empty in ["links=\n", "watches=\n", "watchers=\n"] {
+            assert!(out.matches(empty).count() <= 8, "case {k}: {empty}");
+        }
     }
 }

@@ -79,6 +79,13 @@ fn refusal_11_words_counts_and_forms() {
         "clause,anyx,0,0,0",
         "clause,5,0,0,0",
         "clause,any,0,0",
+        "clause,Down,0,0,0",
+        "clause,down,0,0",
+        "monitor",
+        "monitor,0,0",
+        "monitor,p1",
+        "demonitor",
+        "demonitor,0,0",
         "jump,p1",
         "same,0,1,0",
         "less,0,0",
@@ -122,6 +129,8 @@ fn refusal_12_operands() {
         "exit,4,0",
         "link,4",
         "unlink,4",
+        "monitor,4",
+        "demonitor,-1",
         "trap,2",
         "trap,-1",
         "spawn,0,0,2",
@@ -135,6 +144,7 @@ fn refusal_12_operands() {
         "clause,any,4,0,0",
         "clause,any,0,4,0",
         "clause,any,0,0,2",
+        "clause,down,4,0,0",
         "jump,2",
         "jump,-1",
         "jump,18446744073709551616",
@@ -343,7 +353,7 @@ fn refusal_24_for_a_note_keeps_the_link_and_the_signal() {
     let words = format!("run=2 run=1 {fill} run=1 run=1 arrive=2,1");
     let out = run(&text, &words);
     assert_eq!(answer(&out), "accepted=38 refused=24");
-    assert!(process(&out, 2).contains("trap=1 links=1 mail=16"));
+    assert!(process(&out, 2).contains("trap=1 links=1 watches= watchers= mail=16"));
     assert_eq!(flights(&out), "flight=1,2,1 signal=exit,p2,1");
 }
 
@@ -361,7 +371,15 @@ fn refusal_25_recv_without_a_fit() {
 
 #[test]
 fn refusal_26_for_each_sender() {
-    for op in ["send,0,0", "exit,0,0", "link,0", "unlink,0"] {
+    let senders = [
+        "send,0,0",
+        "exit,0,0",
+        "link,0",
+        "unlink,0",
+        "monitor,0",
+        "demonitor,0",
+    ];
+    for op in senders {
         let code = [
             "set,0,p2", "send,0,0", "send,0,0", "send,0,0", "send,0,0", op,
         ];
@@ -373,7 +391,10 @@ fn refusal_26_for_each_sender() {
     ];
     let out = run(&one(&closing), &"run=1 ".repeat(7));
     assert_eq!(answer(&out), "accepted=6 refused=26");
-    assert_eq!(process(&out, 1), "stage=closing reason=i0 links=2");
+    assert_eq!(
+        process(&out, 1),
+        "stage=closing reason=i0 links=2 watchers="
+    );
 }
 
 #[test]

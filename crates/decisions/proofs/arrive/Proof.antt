@@ -1,6 +1,6 @@
 -- `arrive`: by the stage. Assumes nothing.
 use mathlib.Core.Path.{_∙_}
-use Rattle.decisions.proofs.Laws.{says-becomes, comes-at}
+use Rattle.decisions.proofs.Laws.{comes-at}
 use borrow.Author.Needs.{needs}
 use Rattle.decisions.proofs.arrive.Statement.{statement}
 use Rattle.decisions.proofs.arrive.Tie as tie
@@ -20,14 +20,14 @@ take-requires c κs = search needs
 enum-told-3 : tie.Need-enum-told-3
 enum-told-3 c = search needs
 
-becomes-requires : tie.Need-becomes-requires
-becomes-requires c κs = search needs
+answer-requires : tie.Need-answer-requires
+answer-requires c κs = search needs
 
 enum-told-4 : tie.Need-enum-told-4
 enum-told-4 c = search needs
 
-becomes-requires-2 : tie.Need-becomes-requires-2
-becomes-requires-2 c κs = search needs
+answer-requires-2 : tie.Need-answer-requires-2
+answer-requires-2 c κs = search needs
 
 returns : tie.Need-returns
 returns c =
@@ -42,13 +42,13 @@ returns-2 c =
 returns-3 : tie.Need-returns-3
 returns-3 c =
     let its-args = c .before .before .before .args in
-    c .becomes .ensures ∙ says-becomes (its-args .p) (its-args .p) (its-args .count)
+    c .answer .ensures (its-args .count)
     ∙ comes-at (its-args .i) (its-args .j) (its-args .p) (its-args .count) (its-args .x) (c .before .enum-told3 .given .1)
 
 returns-4 : tie.Need-returns-4
 returns-4 c =
     let its-args = c .before .before .before .args in
-    c .becomes2 .ensures ∙ says-becomes (its-args .p) (its-args .p) (its-args .count)
+    c .answer2 .ensures (its-args .count)
     ∙ comes-at (its-args .i) (its-args .j) (its-args .p) (its-args .count) (its-args .x) (c .before .enum-told4 .given .1)
 
 pub arrive-spec : {M : Type 1} → statement M
@@ -60,9 +60,9 @@ arrive-spec =
     enum-told-2
     take-requires
     enum-told-3
-    becomes-requires
+    answer-requires
     enum-told-4
-    becomes-requires-2
+    answer-requires-2
     returns
     returns-2
     returns-3

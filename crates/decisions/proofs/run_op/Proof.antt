@@ -55,6 +55,15 @@ run-less-requires c κs = search needs
 run-stop-requires : tie.Need-run-stop-requires
 run-stop-requires c κs = search needs
 
+run-monitor-requires : tie.Need-run-monitor-requires
+run-monitor-requires c κs = search needs
+
+run-demonitor-requires : tie.Need-run-demonitor-requires
+run-demonitor-requires c κs = search needs
+
+run-stop-requires-2 : tie.Need-run-stop-requires-2
+run-stop-requires-2 c κs = search needs
+
 returns : tie.Need-returns
 returns c =
     let its-run-set = c .run-set in
@@ -166,7 +175,28 @@ returns-16 c =
     let its-run-stop = c .run-stop in
     let its-args = c .before .before .args in
     let its-match = c .before .match in
-    its-run-stop .ensures ∙ ran-stop (its-args .i) (its-args .p) (its-args .op) (past 15 (its-args .op .number) (its-match .rest))
+    its-run-stop .ensures ∙ ran-at (its-args .i) (its-args .p) (its-args .op) 15 (its-match .keys16)
+
+returns-17 : tie.Need-returns-17
+returns-17 c =
+    let its-run-monitor = c .run-monitor in
+    let its-args = c .before .before .args in
+    let its-match = c .before .match in
+    its-run-monitor .ensures ∙ ran-at (its-args .i) (its-args .p) (its-args .op) 16 (its-match .keys17)
+
+returns-18 : tie.Need-returns-18
+returns-18 c =
+    let its-run-demonitor = c .run-demonitor in
+    let its-args = c .before .before .args in
+    let its-match = c .before .match in
+    its-run-demonitor .ensures ∙ ran-at (its-args .i) (its-args .p) (its-args .op) 17 (its-match .keys18)
+
+returns-19 : tie.Need-returns-19
+returns-19 c =
+    let its-run-stop2 = c .run-stop2 in
+    let its-args = c .before .before .args in
+    let its-match = c .before .match in
+    its-run-stop2 .ensures ∙ ran-stop (its-args .i) (its-args .p) (its-args .op) (past 18 (its-args .op .number) (its-match .rest))
 
 pub run-op-spec : {M : Type 1} → statement M
 run-op-spec =
@@ -188,6 +218,9 @@ run-op-spec =
     run-same-requires
     run-less-requires
     run-stop-requires
+    run-monitor-requires
+    run-demonitor-requires
+    run-stop-requires-2
     returns
     returns-2
     returns-3
@@ -203,4 +236,7 @@ run-op-spec =
     returns-13
     returns-14
     returns-15
-    returns-16)
+    returns-16
+    returns-17
+    returns-18
+    returns-19)

@@ -18,9 +18,6 @@ end-badarg-requires-2 c κs = search needs
 enum-known-v : tie.Need-enum-known-v
 enum-known-v c = search needs
 
-sender-requires : tie.Need-sender-requires
-sender-requires c κs = search needs
-
 advanced-requires : tie.Need-advanced-requires
 advanced-requires c κs = search needs
 
@@ -34,7 +31,7 @@ returns-2 : tie.Need-returns-2
 returns-2 c = rw (c .before .enum-told2 .given .1, c .end-badarg2 .ensures)
 
 returns-3 : tie.Need-returns-3
-returns-3 c = rw (c .before .before .before .before .v .given .1, c .sends .ensures, c .before .advanced .ensures, c .before .before .sender .ensures)
+returns-3 c = rw (c .before .before .before .v .given .1, c .sends .ensures, c .before .advanced .ensures)
 
 pub send-to-spec : {M : Type 1} → statement M
 send-to-spec =
@@ -45,7 +42,6 @@ send-to-spec =
     enum-told-2
     end-badarg-requires-2
     enum-known-v
-    sender-requires
     advanced-requires
     sends-requires
     returns

@@ -35,6 +35,30 @@ unlinked-requires c κs = search needs
 becomes-requires-2 : tie.Need-becomes-requires-2
 becomes-requires-2 c κs = search needs
 
+enum-told-3 : tie.Need-enum-told-3
+enum-told-3 c = search needs
+
+watched-requires : tie.Need-watched-requires
+watched-requires c κs = search needs
+
+becomes-requires-3 : tie.Need-becomes-requires-3
+becomes-requires-3 c κs = search needs
+
+enum-told-4 : tie.Need-enum-told-4
+enum-told-4 c = search needs
+
+unwatched-requires : tie.Need-unwatched-requires
+unwatched-requires c κs = search needs
+
+becomes-requires-4 : tie.Need-becomes-requires-4
+becomes-requires-4 c κs = search needs
+
+enum-known-x-3 : tie.Need-enum-known-x-3
+enum-known-x-3 c = search needs
+
+down-requires : tie.Need-down-requires
+down-requires c κs = search needs
+
 returns : tie.Need-returns
 returns c =
     let its-join = c .join in
@@ -63,6 +87,21 @@ returns-4 c =
     let its-args = c .before .before .before .before .args in
     its-becomes2 .ensures ∙ says-becomes (its-args .p) (its-unlinked .result) (its-args .count) ∙ rw (its-unlinked .ensures, its-enum-told2 .given .1)
 
+returns-5 : tie.Need-returns-5
+returns-5 c =
+    let its-watched = c .before .watched in
+    let its-args = c .before .before .before .before .args in
+    c .becomes3 .ensures ∙ says-becomes (its-args .p) (its-watched .result) (its-args .count) ∙ rw (its-watched .ensures, c .before .before .enum-told3 .given .1)
+
+returns-6 : tie.Need-returns-6
+returns-6 c =
+    let its-unwatched = c .before .unwatched in
+    let its-args = c .before .before .before .before .args in
+    c .becomes4 .ensures ∙ says-becomes (its-args .p) (its-unwatched .result) (its-args .count) ∙ rw (its-unwatched .ensures, c .before .before .enum-told4 .given .1)
+
+returns-7 : tie.Need-returns-7
+returns-7 c = c .down .ensures ∙ rw (c .before .before .x3 .given .1)
+
 pub take-spec : {M : Type 1} → statement M
 take-spec =
     tie.close
@@ -77,7 +116,18 @@ take-spec =
     enum-told-2
     unlinked-requires
     becomes-requires-2
+    enum-told-3
+    watched-requires
+    becomes-requires-3
+    enum-told-4
+    unwatched-requires
+    becomes-requires-4
+    enum-known-x-3
+    down-requires
     returns
     returns-2
     returns-3
-    returns-4)
+    returns-4
+    returns-5
+    returns-6
+    returns-7)

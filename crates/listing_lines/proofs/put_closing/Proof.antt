@@ -1,4 +1,4 @@
--- `put_closing` writes a closing process: its stage, reason and links. Assumes nothing.
+-- `put_closing` writes a closing process: its stage, reason, links and watchers. Assumes nothing.
 use borrow.Author.Needs.{needs}
 use Rattle.text.proofs.Writing.{wrote-length, _▸_}
 use Rattle.listing_lines.specs.Lines.{standingLines}
@@ -32,14 +32,21 @@ slice-aggregate-put-set c = search needs
 put-set-requires : tie.Need-put-set-requires
 put-set-requires c κs = search needs
 
+slice-aggregate-put-set-2 : tie.Need-slice-aggregate-put-set-2
+slice-aggregate-put-set-2 c = search needs
+
+put-set-requires-2 : tie.Need-put-set-requires-2
+put-set-requires-2 c κs = search needs
+
 returns : tie.Need-returns
 unfolding standingLines
 returns c =
-    let links = c .before .before in
+    let watchers = c .before .before in
+    let links = watchers .before .before .before .before .before in
     let value-line = links .before .before .before .before .before in
     let bytes = value-line .before .before .before .before .before in
     let number-line = bytes .before .before .before .before .before in
-    number-line .put-number-line .ensures ▸ bytes .put-bytes .ensures ▸ value-line .put-value-line .ensures ▸ links .put-set .ensures
+    number-line .put-number-line .ensures ▸ bytes .put-bytes .ensures ▸ value-line .put-value-line .ensures ▸ links .put-set .ensures ▸ watchers .put-set2 .ensures
 
 same-length : tie.Need-same-length
 same-length c = wrote-length (returns c)
@@ -57,5 +64,7 @@ put-closing-spec =
     put-value-line-requires
     slice-aggregate-put-set
     put-set-requires
+    slice-aggregate-put-set-2
+    put-set-requires-2
     same-length
     returns)

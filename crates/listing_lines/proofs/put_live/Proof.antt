@@ -53,11 +53,8 @@ flag-requires c κs = search needs
 put-number-line-requires-4 : tie.Need-put-number-line-requires-4
 put-number-line-requires-4 c κs = search needs
 
-slice-aggregate-put-set : tie.Need-slice-aggregate-put-set
-slice-aggregate-put-set c = search needs
-
-put-set-requires : tie.Need-put-set-requires
-put-set-requires c κs = search needs
+put-sets-requires : tie.Need-put-sets-requires
+put-sets-requires c κs = search needs
 
 slice-aggregate-put-number-line-5 : tie.Need-slice-aggregate-put-number-line-5
 slice-aggregate-put-number-line-5 c = search needs
@@ -69,8 +66,8 @@ returns : tie.Need-returns
 unfolding standingLines
 returns c =
     let number-line5 = c .before .before in
-    let links = number-line5 .before .before .before .before .before in
-    let number-line4 = links .before .before .before .before .before .before in
+    let sets = number-line5 .before .before .before .before .before in
+    let number-line4 = sets .before .before .before .before in
     let at-flag = number-line4 .before in
     let registers = at-flag .before .before .before .before .before in
     let number-line3 = registers .before .before .before .before in
@@ -78,7 +75,7 @@ returns c =
     let bytes = number-line2 .before .before .before .before .before .before in
     let number-line = bytes .before .before .before .before .before in
     number-line .put-number-line .ensures ▸ bytes .put-bytes .ensures ▸ number-line2 .put-number-line2 .ensures ▸ number-line3 .put-number-line3 .ensures
-    ▸ registers .put-registers .ensures ▸ wrote-as (ap (numberLine trapKey) (at-flag .flag .ensures)) (number-line4 .put-number-line4 .ensures) ▸ links .put-set .ensures ▸
+    ▸ registers .put-registers .ensures ▸ wrote-as (ap (numberLine trapKey) (at-flag .flag .ensures)) (number-line4 .put-number-line4 .ensures) ▸ sets .put-sets .ensures ▸
     number-line5 .put-number-line5 .ensures
 
 same-length : tie.Need-same-length
@@ -103,8 +100,7 @@ put-live-spec =
     slice-aggregate-put-number-line-4
     flag-requires
     put-number-line-requires-4
-    slice-aggregate-put-set
-    put-set-requires
+    put-sets-requires
     slice-aggregate-put-number-line-5
     put-number-line-requires-5
     same-length

@@ -13,11 +13,17 @@ same-value-requires c κs = search needs
 enum-told : tie.Need-enum-told
 enum-told c = search needs
 
+enum-told-2 : tie.Need-enum-told-2
+enum-told-2 c = search needs
+
 returns : tie.Need-returns
 returns c = c .same-value .ensures ∙ rw (c .before .before .m .given .1)
 
 returns-2 : tie.Need-returns-2
 returns-2 c = search needs
 
+returns-3 : tie.Need-returns-3
+returns-3 c = search needs
+
 pub is-value-spec : {M : Type 1} → statement M
-is-value-spec = tie.close (tie.spec enum-known-m same-value-requires enum-told returns returns-2)
+is-value-spec = tie.close (tie.spec enum-known-m same-value-requires enum-told enum-told-2 returns returns-2 returns-3)

@@ -1,4 +1,4 @@
--- `with_message` puts a value into r, and of a note the sender into r, then the reason into s. Assumes nothing.
+-- `with_message` puts a value into r, and of a note or a down the sender into r, then the reason into s. Assumes nothing.
 use mathlib.Core.Path.{_∙_}
 use borrow.Author.Needs.{needs}
 use Rattle.receive.proofs.with_message.Statement.{statement}
@@ -13,17 +13,23 @@ with-register-requires c κs = search needs
 enum-known-m-2 : tie.Need-enum-known-m-2
 enum-known-m-2 c = search needs
 
-with-register-requires-2 : tie.Need-with-register-requires-2
-with-register-requires-2 c κs = search needs
+with-sender-requires : tie.Need-with-sender-requires
+with-sender-requires c κs = search needs
 
-with-register-requires-3 : tie.Need-with-register-requires-3
-with-register-requires-3 c κs = search needs
+enum-known-m-3 : tie.Need-enum-known-m-3
+enum-known-m-3 c = search needs
+
+with-sender-requires-2 : tie.Need-with-sender-requires-2
+with-sender-requires-2 c κs = search needs
 
 returns : tie.Need-returns
 returns c = rw (c .before .before .m .given .1) (c .with-register .ensures)
 
 returns-2 : tie.Need-returns-2
-returns-2 c = rw (c .before .before .before .m2 .given .1) (c .with-register3 .ensures ∙ rw (c .before .with-register2 .ensures))
+returns-2 c = rw (c .before .before .m2 .given .1) (c .with-sender .ensures)
+
+returns-3 : tie.Need-returns-3
+returns-3 c = rw (c .before .before .m3 .given .1) (c .with-sender2 .ensures)
 
 pub with-message-spec : {M : Type 1} → statement M
 with-message-spec =
@@ -32,7 +38,9 @@ with-message-spec =
     enum-known-m
     with-register-requires
     enum-known-m-2
-    with-register-requires-2
-    with-register-requires-3
+    with-sender-requires
+    enum-known-m-3
+    with-sender-requires-2
     returns
-    returns-2)
+    returns-2
+    returns-3)

@@ -1,48 +1,71 @@
--- `word_code` gives the number of a word. The invariant: the bytes from k on give the number so far. Assumes nothing.
+-- `word_code` gives the number of a word. The invariant: the letters from k on give the number so far. Assumes nothing.
 use mathlib.Core.Path.{_≡_}
 use Prim.Native.Nat.{_≤_, min}
 use native.Mathlib.Omega.{arith}
 use borrow.Author.Needs.{needs}
 use lib.ListN.{length, drop}
 use Rattle.words.specs.Words.{packed, longWord}
-use Rattle.words.proofs.Words.{packed-all, packed-front, packed-long, packed-none}
+use Rattle.words.proofs.Words.{Letters, packed-none, letters-front, packed-front, packed-all, long-none, low-none, high-none}
 use Rattle.words.proofs.word_code.Statement.{statement}
 use Rattle.words.proofs.word_code.Tie as tie
 
 abbrev Inv-loop : tie.InvT-loop
-Inv-loop word code₀ k₀ code k = (k ≤ length word) × (code ≡ min (packed (drop k word)) longWord)
+Inv-loop word code₀ k₀ code k = (k ≤ length word) × Letters (drop k word) × (code ≡ min (packed (drop k word)) longWord)
 
 abbrev μ-loop : tie.MeasureT-loop
 μ-loop word code₀ k₀ code k = k
 
 returns : tie.Need-returns Inv-loop μ-loop
-returns c = record { is = packed-long _ (c .if1 .taken); bytes = λ k. omega (arith, c .before .shared-slice-known .given k) }
+returns c = long-none _ (c .if1 .taken)
 
 loop-holds : tie.Need-loop-holds Inv-loop μ-loop
-loop-holds c = (search needs, packed-none (c .before .before .args .word .now))
+loop-holds c =
+    let none = packed-none (c .before .before .args .word .now) in
+    (search needs, none .0, none .1)
 
 sub-k : tie.Need-sub-k Inv-loop μ-loop
 sub-k c = search needs
 
-shared-slice-read-with-byte : tie.Need-shared-slice-read-with-byte Inv-loop μ-loop
-shared-slice-read-with-byte c = search needs
+shared-slice-read-if2 : tie.Need-shared-slice-read-if2 Inv-loop μ-loop
+shared-slice-read-if2 c = search needs
 
-with-byte-requires : tie.Need-with-byte-requires Inv-loop μ-loop
-with-byte-requires c κs = search needs
+returns-2 : tie.Need-returns-2 Inv-loop μ-loop
+returns-2 c =
+    let t = c .before .before .loop-test .taken in
+    let v = c .before .before .before .loop .inv in
+    low-none _ _ (omega (arith, t, v .0)) (c .if2 .taken)
+
+shared-slice-read-if3 : tie.Need-shared-slice-read-if3 Inv-loop μ-loop
+shared-slice-read-if3 c = search needs
+
+returns-3 : tie.Need-returns-3 Inv-loop μ-loop
+returns-3 c =
+    let t = c .before .before .before .before .loop-test .taken in
+    let v = c .before .before .before .before .before .loop .inv in
+    high-none _ _ (omega (arith, t, v .0)) (c .if3 .taken)
+
+shared-slice-read-with-letter : tie.Need-shared-slice-read-with-letter Inv-loop μ-loop
+shared-slice-read-with-letter c = search needs
+
+with-letter-requires : tie.Need-with-letter-requires Inv-loop μ-loop
+with-letter-requires c κs = c .before .before .before .if2 .left
 
 loop-less : tie.Need-loop-less Inv-loop μ-loop
 loop-less c = search needs
 
 loop-again : tie.Need-loop-again Inv-loop μ-loop
 loop-again c =
-    let turn = c .before .before .before .loop in
-    (search needs, packed-front _ _ (c .before .before .loop-test .taken) (turn .inv .0) (turn .inv .1) (c .with-byte .ensures))
+    let v = c .before .before .before .before .before .before .before .loop .inv in
+    let t = c .before .before .before .before .before .before .loop-test .taken in (
+      search needs,
+      letters-front _ _ t (v .0) (v .1) (c .before .before .before .before .if2 .left) (c .before .before .if3 .left),
+      packed-front _ _ t (v .0) (v .2) (c .with-letter .ensures),
+    )
 
-returns-2 : tie.Need-returns-2 Inv-loop μ-loop
-returns-2 c = record {
-  is = packed-all _ _ (c .loop-test .left) (c .before .loop .inv .1);
-  bytes = λ k. omega (arith, c .before .before .before .shared-slice-known .given k);
-}
+returns-4 : tie.Need-returns-4 Inv-loop μ-loop
+returns-4 c =
+    let v = c .before .loop .inv in
+    packed-all _ _ (c .before .before .if1 .left) (c .loop-test .left) (v .1) (v .2)
 
 pub word-code-spec : {M : Type 1} → statement M
 word-code-spec =
@@ -53,8 +76,12 @@ word-code-spec =
     returns
     loop-holds
     sub-k
-    shared-slice-read-with-byte
-    with-byte-requires
+    shared-slice-read-if2
+    returns-2
+    shared-slice-read-if3
+    returns-3
+    shared-slice-read-with-letter
+    with-letter-requires
     loop-less
     loop-again
-    returns-2)
+    returns-4)

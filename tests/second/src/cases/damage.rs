@@ -236,6 +236,10 @@ fn unknown_word(random: &mut Random, draft: &Draft) -> Damaged {
         b"op=nop",
         b"op=recv ",
         b"op=par",
+        b"op=Monitor",
+        b"op=monitors",
+        b"op=demonito",
+        b"op=down",
     ];
     let mut changed: Vec<Vec<u8>> = fields.iter().map(|field| field.to_vec()).collect();
     if fields[0] == b"op=clause" && random.chance(70) {
@@ -252,6 +256,11 @@ fn unknown_word(random: &mut Random, draft: &Draft) -> Damaged {
             b"7",
             b"notes",
             b"a",
+            b"Down",
+            b"downs",
+            b"dow",
+            b"d",
+            b"monitor",
         ];
         changed[1] = random.pick(kinds).to_vec();
     } else {
@@ -322,7 +331,7 @@ impl OpLine {
 /// or a clause does not belong there is not told, because the line itself is damaged.
 fn some_op_line(random: &mut Random, draft: &Draft) -> OpLine {
     // Words whose operands are of a rarer kind stand here more than once.
-    const ANY_WORD: [&str; 26] = [
+    const ANY_WORD: [&str; 29] = [
         "set,0,i1",
         "copy,0,1",
         "self,0",
@@ -331,6 +340,8 @@ fn some_op_line(random: &mut Random, draft: &Draft) -> OpLine {
         "exit,0,1",
         "link,0",
         "unlink,0",
+        "monitor,0",
+        "demonitor,0",
         "trap,1",
         "trap,0",
         "spawn,0,1,1",
@@ -342,6 +353,7 @@ fn some_op_line(random: &mut Random, draft: &Draft) -> OpLine {
         "recv,8",
         "clause,any,0,0,0",
         "clause,i1,0,0,0",
+        "clause,down,0,0,0",
         "jump,0",
         "jump,0",
         "jump,0",
@@ -578,11 +590,12 @@ fn bad_clauses(random: &mut Random, draft: &Draft) -> Damaged {
     }
 }
 
-/// The damaged place or, if a clause stands there now, an earlier op that aims at it.
+/// The damaged place or, if a clause stands there now, an earlier op that aims at it. A second
+/// damage can name the place behind the code.
 fn lowest_bad_place(code: &[Op], place: usize) -> usize {
     let aims_here = |op: &Op| target_of(*op) == Some(place);
     match code.iter().position(aims_here) {
-        Some(earlier) if matches!(code[place], Op::Clause(_)) => place.min(earlier),
+        Some(earlier) if matches!(code.get(place), Some(Op::Clause(_))) => place.min(earlier),
         _ => place,
     }
 }
@@ -599,7 +612,7 @@ fn plain_places(code: &[Op]) -> Vec<usize> {
 
 fn some_clause(random: &mut Random, target: usize) -> Op {
     Op::Clause(Clause {
-        pattern: *random.pick(&[Pattern::Any, Pattern::Int, Pattern::Note]),
+        pattern: *random.pick(&[Pattern::Any, Pattern::Int, Pattern::Note, Pattern::Down]),
         r: random.below(4),
         s: random.below(4),
         target,

@@ -6,7 +6,7 @@ pub mod plans;
 pub mod schedules;
 
 use crate::random::Random;
-use plans::Theme;
+use plans::{Theme, Tie};
 use schedules::Goal;
 
 /// Case number k of a seed: plan text and steps text, the same on every call.
@@ -33,8 +33,13 @@ fn played(random: &mut Random) -> (Vec<u8>, Vec<u8>) {
 /// The theme under which a goal is met often.
 fn theme_for(random: &mut Random, goal: Goal) -> Theme {
     match goal {
-        Goal::MailboxFull | Goal::PairFull if random.chance(80) => Theme::Flood,
-        Goal::PairFull => Theme::Links,
+        Goal::MailboxFull if random.chance(20) => Theme::FullRace(Tie::Watch),
+        Goal::MailboxFull if random.chance(80) => Theme::Flood,
+        Goal::PairFull => match random.weighted(&[9, 1, 10]) {
+            0 => Theme::Flood,
+            1 => Theme::Links,
+            _ => Theme::Signs,
+        },
         Goal::NotUnborn if random.chance(60) => Theme::Spawns,
         _ => plans::any_theme(random),
     }

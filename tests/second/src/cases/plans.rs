@@ -11,30 +11,64 @@ pub enum Theme {
     /// Loops of send and exit, so that mailboxes and pairs become full.
     Flood,
     Links,
+    Monitors,
     Exits,
     Receive,
     Spawns,
     Arithmetic,
-    /// A process that links and unlinks another one, which sends a row of messages and ends.
-    Race,
-    /// The same with a full mailbox: the other one ends just after the unlink.
-    FullRace,
+    /// Signs that watch rows, which send a sign up to as many signals as a pair holds and end.
+    Signs,
+    /// A process that ties itself to another one and takes the tie back; the other one sends a row
+    /// of messages and ends.
+    Race(Tie),
+    /// The same with a full mailbox: the other one ends just after the tie is taken back.
+    FullRace(Tie),
 }
 
-const THEMES: [Theme; 9] = [
-    Theme::Mixed,
-    Theme::Flood,
-    Theme::Links,
-    Theme::Exits,
-    Theme::Receive,
-    Theme::Spawns,
-    Theme::Arithmetic,
-    Theme::Race,
-    Theme::FullRace,
+const THEMES: [(Theme, usize); 13] = [
+    (Theme::Mixed, 2),
+    (Theme::Flood, 2),
+    (Theme::Links, 2),
+    (Theme::Monitors, 2),
+    (Theme::Exits, 2),
+    (Theme::Receive, 2),
+    (Theme::Spawns, 2),
+    (Theme::Arithmetic, 3),
+    (Theme::Signs, 5),
+    (Theme::Race(Tie::Link), 2),
+    (Theme::Race(Tie::Watch), 1),
+    (Theme::FullRace(Tie::Link), 3),
+    (Theme::FullRace(Tie::Watch), 3),
 ];
 
+/// What lets a process hear of another one's end.
+#[derive(Clone, Copy, Debug, PartialEq, Eq)]
+pub enum Tie {
+    Link,
+    Watch,
+}
+
+impl Tie {
+    /// The op that ties a process to the one in its register r.
+    fn tied(self, r: usize) -> Op {
+        match self {
+            Tie::Link => Op::Link(r),
+            Tie::Watch => Op::Monitor(r),
+        }
+    }
+
+    /// The op that takes the tie back.
+    fn untied(self, r: usize) -> Op {
+        match self {
+            Tie::Link => Op::Unlink(r),
+            Tie::Watch => Op::Demonitor(r),
+        }
+    }
+}
+
 pub fn any_theme(random: &mut Random) -> Theme {
-    *random.pick(&THEMES)
+    let weights = THEMES.map(|(_, weight)| weight);
+    THEMES[random.weighted(&weights)].0
 }
 
 /// A plan before it is text.
@@ -85,7 +119,7 @@ const LONGEST: usize = 32;
 /// A valid plan.
 pub fn draft(random: &mut Random, theme: Theme) -> Draft {
     let count = match theme {
-        Theme::Race | Theme::FullRace => 3,
+        Theme::Race(_) | Theme::FullRace(_) | Theme::Signs => 3,
         Theme::Receive => random.between(2, 3),
         _ => random.weighted(&[0, 2, 4, 4, 3, 2, 1, 1, 1]),
     };
@@ -94,7 +128,8 @@ pub fn draft(random: &mut Random, theme: Theme) -> Draft {
         .map(|index| code(random, theme, index, count, &population))
         .collect();
     let starts = match theme {
-        Theme::Race | Theme::FullRace => race_starts(random, &population),
+        Theme::Race(_) | Theme::FullRace(_) => race_starts(random, &population),
+        Theme::Signs => sign_starts(random, &population),
         _ => starts(random, theme, count, &population),
     };
     Draft { behaviours, starts }
@@ -108,6 +143,16 @@ fn race_starts(random: &mut Random, population: &[u8]) -> Vec<(u8, u8)> {
         if random.chance(50) {
             starts.push((process, 3));
         }
+    }
+    starts.sort_unstable();
+    starts
+}
+
+/// The first process of the population is a sign, the second a row, the others do any behaviour.
+fn sign_starts(random: &mut Random, population: &[u8]) -> Vec<(u8, u8)> {
+    let mut starts = vec![(population[0], 1), (population[1], 2)];
+    for &process in &population[2..] {
+        starts.push((process, random.between(1, 3) as u8));
     }
     starts.sort_unstable();
     starts
@@ -182,6 +227,9 @@ enum Part {
     Stop,
     FullPair,
     LinkAndUnlink,
+    Monitors,
+    Demonitors,
+    MonitorAndDemonitor,
     Serve,
     Crash,
     SendRow,
@@ -204,6 +252,9 @@ const MIXED_PARTS: &[(Part, usize)] = &[
     (Part::Stop, 1),
     (Part::FullPair, 1),
     (Part::LinkAndUnlink, 2),
+    (Part::Monitors, 4),
+    (Part::Demonitors, 3),
+    (Part::MonitorAndDemonitor, 2),
     (Part::Serve, 4),
     (Part::Crash, 2),
     (Part::SendRow, 4),
@@ -224,6 +275,9 @@ const FLOOD_PARTS: &[(Part, usize)] = &[
     (Part::Plain, 1),
     (Part::FullPair, 3),
     (Part::LinkAndUnlink, 1),
+    (Part::Monitors, 2),
+    (Part::Demonitors, 2),
+    (Part::MonitorAndDemonitor, 3),
     (Part::Serve, 2),
     (Part::Crash, 1),
     (Part::SendRow, 2),
@@ -251,6 +305,25 @@ const LINKS_PARTS: &[(Part, usize)] = &[
     (Part::Select, 1),
 ];
 
+const MONITORS_PARTS: &[(Part, usize)] = &[
+    (Part::Sends, 2),
+    (Part::Exits, 4),
+    (Part::Links, 2),
+    (Part::Trap, 3),
+    (Part::Spawn, 2),
+    (Part::Receive, 4),
+    (Part::Plain, 2),
+    (Part::Stop, 1),
+    (Part::FullPair, 2),
+    (Part::Monitors, 10),
+    (Part::Demonitors, 4),
+    (Part::MonitorAndDemonitor, 4),
+    (Part::Serve, 2),
+    (Part::Crash, 3),
+    (Part::SendRow, 1),
+    (Part::Select, 3),
+];
+
 const EXITS_PARTS: &[(Part, usize)] = &[
     (Part::Sends, 2),
     (Part::Flood, 1),
@@ -266,6 +339,7 @@ const EXITS_PARTS: &[(Part, usize)] = &[
     (Part::Stop, 2),
     (Part::FullPair, 1),
     (Part::LinkAndUnlink, 2),
+    (Part::Monitors, 2),
     (Part::Serve, 3),
     (Part::Crash, 2),
     (Part::SendRow, 2),
@@ -279,6 +353,7 @@ const RECEIVE_PARTS: &[(Part, usize)] = &[
     (Part::Trap, 4),
     (Part::Receive, 4),
     (Part::Plain, 1),
+    (Part::Monitors, 3),
     (Part::Serve, 4),
     (Part::SendRow, 10),
     (Part::Select, 10),
@@ -298,6 +373,8 @@ const SPAWNS_PARTS: &[(Part, usize)] = &[
     (Part::Plain, 2),
     (Part::Stop, 4),
     (Part::LinkAndUnlink, 1),
+    (Part::Monitors, 3),
+    (Part::Demonitors, 1),
     (Part::Serve, 4),
     (Part::Crash, 2),
     (Part::SendRow, 1),
@@ -323,7 +400,8 @@ fn parts_of(theme: Theme) -> &'static [(Part, usize)] {
         Theme::Mixed => MIXED_PARTS,
         Theme::Flood => FLOOD_PARTS,
         Theme::Links => LINKS_PARTS,
-        Theme::Exits | Theme::Race | Theme::FullRace => EXITS_PARTS,
+        Theme::Monitors | Theme::Signs => MONITORS_PARTS,
+        Theme::Exits | Theme::Race(_) | Theme::FullRace(_) => EXITS_PARTS,
         Theme::Receive => RECEIVE_PARTS,
         Theme::Spawns => SPAWNS_PARTS,
         Theme::Arithmetic => ARITHMETIC_PARTS,
@@ -353,10 +431,13 @@ fn code(
         ops: Vec::new(),
     };
     match (theme, index) {
-        (Theme::Race, 0) => writer.watcher(),
-        (Theme::Race, 1) => writer.crasher(),
-        (Theme::FullRace, 0) => writer.late_watcher(),
-        (Theme::FullRace, 1) => writer.full_crasher(),
+        (Theme::Signs, 0) => writer.sign(),
+        (Theme::Signs, 1) => writer.row(),
+        (Theme::Race(tie), 0) => writer.watcher(tie),
+        (Theme::Race(_), 1) => writer.crasher(),
+        (Theme::FullRace(tie), 0) => writer.late_watcher(tie),
+        (Theme::FullRace(tie), 1) => writer.full_crasher(tie),
+        (Theme::FullRace(_), 2) => writer.visitor(),
         (Theme::Receive, 0) => writer.receiver(),
         (Theme::Receive, 1) => writer.sender(),
         (Theme::Spawns, 0) => {
@@ -391,6 +472,9 @@ impl Writer<'_> {
     /// Takes messages for ever, in two selections.
     fn receiver(&mut self) {
         self.push(Op::Trap(true));
+        if self.random.chance(50) {
+            self.monitors();
+        }
         self.select();
         if self.random.chance(50) {
             self.delay(2);
@@ -415,20 +499,106 @@ impl Writer<'_> {
         }
     }
 
-    /// Links the crasher, mostly unlinks it again, then waits.
-    fn watcher(&mut self) {
+    /// Watches a row and lets it go on by a message, at times watches another process, then takes
+    /// what it hears.
+    fn sign(&mut self) {
+        let trapping = self.random.chance(60);
+        if trapping {
+            self.push(Op::Trap(true));
+        }
+        self.delay(6);
+        self.push(Op::Set(1, Value::Pid(self.population[1])));
+        self.push(Op::Monitor(1));
+        if self.random.chance(40) {
+            self.push(Op::Link(1));
+        }
+        if self.random.chance(80) {
+            self.push(Op::Send(1, 1));
+        }
+        self.delay(3);
+        match self.random.below(6) {
+            0 => self.push(Op::Demonitor(1)),
+            1..=3 => self.push(Op::Monitor(1)),
+            4 => self.monitors(),
+            _ => {}
+        }
+        let start = self.ops.len();
+        if self.random.chance(75) {
+            self.wait_for_one_kind(trapping);
+        }
+        if self.random.chance(30) {
+            self.receive();
+        } else {
+            self.select();
+        }
+        self.push(Op::Jump(start));
+    }
+
+    /// A recv that takes one kind only. What it takes the process sends to itself, unless it is a
+    /// down: other messages may come before it.
+    fn wait_for_one_kind(&mut self, trapping: bool) {
+        self.push(Op::SelfNumber(3));
+        let pattern = match self.random.below(3) {
+            0 if trapping => {
+                self.push(Op::Exit(3, 2));
+                Pattern::Note
+            }
+            1 => {
+                self.push(Op::Send(3, 2));
+                Pattern::Exact(Value::Int(0))
+            }
+            _ => Pattern::Down,
+        };
+        let target = self.ops.len() + 2;
+        self.push(Op::Recv(1));
+        self.push(Op::Clause(Clause {
+            pattern,
+            r: 0,
+            s: 3,
+            target,
+        }));
+    }
+
+    /// Sends the first sign up to as many signals as a pair holds, often only after it has heard of
+    /// a sign, then ends.
+    fn row(&mut self) {
+        if self.random.chance(50) {
+            self.push(Op::Recv(1));
+            self.push(Op::Clause(Clause {
+                pattern: Pattern::Any,
+                r: 3,
+                s: 3,
+                target: 2,
+            }));
+        }
+        self.push(Op::Set(0, Value::Pid(self.population[0])));
+        let mut sends = *self.random.pick(&[0, 1, 4, 4, 4, 4, 4, 4]);
+        if sends > 0 && self.random.chance(50) {
+            self.push(Op::Link(0));
+            sends -= 1;
+        }
+        for _ in 0..sends {
+            self.push(Op::Send(0, 2));
+        }
+        let reason = self.reason();
+        self.push(Op::Set(1, reason));
+        self.push(Op::Stop(1));
+    }
+
+    /// Ties itself to the crasher, mostly takes the tie back, then waits.
+    fn watcher(&mut self, tie: Tie) {
         if self.random.chance(40) {
             self.push(Op::Trap(true));
         }
         self.push(Op::Set(1, Value::Pid(self.population[1])));
-        self.push(Op::Link(1));
+        self.push(tie.tied(1));
         self.delay(3);
         if self.random.chance(75) {
-            self.push(Op::Unlink(1));
+            self.push(tie.untied(1));
         }
         self.delay(3);
         if self.random.chance(20) {
-            self.push(Op::Link(1));
+            self.push(tie.tied(1));
         }
         self.receive();
         self.push(Op::Jump(ANYWHERE));
@@ -450,10 +620,15 @@ impl Writer<'_> {
         self.push(Op::Stop(1));
     }
 
-    /// Unlinks the process whose number it is sent, then takes no integer.
-    fn late_watcher(&mut self) {
+    /// Watches the crasher if that is the tie, unties itself from the process whose number it is
+    /// sent, then takes no integer.
+    fn late_watcher(&mut self, tie: Tie) {
         if self.random.chance(40) {
             self.push(Op::Trap(true));
+        }
+        if tie == Tie::Watch {
+            self.push(Op::Set(1, Value::Pid(self.population[1])));
+            self.push(tie.tied(1));
         }
         let after = self.ops.len() + 2;
         self.push(Op::Recv(1));
@@ -464,12 +639,13 @@ impl Writer<'_> {
             target: after,
         }));
         if self.random.chance(70) {
-            self.push(Op::Unlink(1));
+            self.push(tie.untied(1));
         }
         self.push(Op::Recv(1));
-        let pattern = *self
-            .random
-            .pick(&[Pattern::Atom, Pattern::Note, Pattern::Pid]);
+        let pattern =
+            *self
+                .random
+                .pick(&[Pattern::Atom, Pattern::Note, Pattern::Pid, Pattern::Down]);
         self.push(Op::Clause(Clause {
             pattern,
             r: 1,
@@ -478,10 +654,13 @@ impl Writer<'_> {
         }));
     }
 
-    /// Links the watcher, fills its mailbox, asks for the unlink and ends.
-    fn full_crasher(&mut self) {
+    /// Links the watcher if that is the tie, fills its mailbox, asks it to take the tie back and
+    /// ends.
+    fn full_crasher(&mut self, tie: Tie) {
         self.push(Op::Set(0, Value::Pid(self.population[0])));
-        self.push(Op::Link(0));
+        if tie == Tie::Link {
+            self.push(tie.tied(0));
+        }
         for _ in 0..15 {
             self.push(Op::Send(0, 2));
         }
@@ -494,6 +673,17 @@ impl Writer<'_> {
             self.push(Op::Exit(0, 1));
         }
         self.push(Op::Stop(1));
+    }
+
+    /// Ties itself to the watcher and takes ties back, for ever.
+    fn visitor(&mut self) {
+        self.push(Op::Set(0, Value::Pid(self.population[0])));
+        for _ in 0..self.random.between(1, 4) {
+            let tie = *self.random.pick(&[Tie::Link, Tie::Watch]);
+            let op = *self.random.pick(&[tie.tied(0), tie.untied(0)]);
+            self.push(op);
+        }
+        self.push(Op::Jump(1));
     }
 
     /// Up to `most` ops that only change r3.
@@ -522,7 +712,10 @@ impl Writer<'_> {
             Part::Plain => self.plain(),
             Part::Stop => self.stop(),
             Part::FullPair => self.full_pair(),
-            Part::LinkAndUnlink => self.link_and_unlink(),
+            Part::LinkAndUnlink => self.tied_for_a_while(Tie::Link),
+            Part::Monitors => self.monitors(),
+            Part::Demonitors => self.demonitors(),
+            Part::MonitorAndDemonitor => self.tied_for_a_while(Tie::Watch),
             Part::Serve => self.serve(),
             Part::Crash => self.crash(),
             Part::SendRow => self.send_row(),
@@ -640,11 +833,13 @@ impl Writer<'_> {
         let s = self.content(r, value);
         let start = self.ops.len();
         for _ in 0..self.random.between(1, 3) {
-            let op = match self.random.below(12) {
-                0..=5 => Op::Send(r, s),
-                6..=8 => Op::Exit(r, s),
-                9 => Op::Link(r),
-                10 => Op::Unlink(r),
+            let op = match self.random.below(17) {
+                0..=4 => Op::Send(r, s),
+                5..=7 => Op::Exit(r, s),
+                8..=9 => Op::Link(r),
+                10..=11 => Op::Unlink(r),
+                12..=13 => Op::Monitor(r),
+                14..=15 => Op::Demonitor(r),
                 _ => Op::Copy(s, r),
             };
             self.push(op);
@@ -673,15 +868,31 @@ impl Writer<'_> {
         self.push(Op::Unlink(r));
     }
 
-    /// A link that is taken back after some steps; an exit signal sent meanwhile is dropped.
-    fn link_and_unlink(&mut self) {
+    fn monitors(&mut self) {
+        for _ in 0..self.random.between(1, 2) {
+            let r = self.addressee();
+            self.push(Op::Monitor(r));
+            if self.random.chance(10) {
+                self.push(Op::Monitor(r));
+            }
+        }
+    }
+
+    fn demonitors(&mut self) {
+        let r = self.addressee();
+        self.push(Op::Demonitor(r));
+    }
+
+    /// A tie that is taken back after some steps; what the other one sends at its end meanwhile
+    /// is dropped.
+    fn tied_for_a_while(&mut self, tie: Tie) {
         let (r, process) = (self.register(), self.process());
         self.push(Op::Set(r, Value::Pid(process)));
-        self.push(Op::Link(r));
+        self.push(tie.tied(r));
         for _ in 0..self.random.below(4) {
             self.push(Op::Trap(true));
         }
-        self.push(Op::Unlink(r));
+        self.push(tie.untied(r));
     }
 
     /// Messages of different kinds, and notes if the other one traps, in a random order.
@@ -715,9 +926,10 @@ impl Writer<'_> {
             Pattern::Atom,
             Pattern::Pid,
             Pattern::Note,
+            Pattern::Down,
             Pattern::Exact(self.value()),
         ];
-        let count = self.random.between(2, 5);
+        let count = self.random.between(2, 6);
         self.push(Op::Recv(count));
         for _ in 0..count {
             let pattern = patterns.swap_remove(self.random.below(patterns.len()));
@@ -775,14 +987,21 @@ impl Writer<'_> {
         let (r, s) = (self.register(), self.register());
         let behaviour = self.random.between(1, self.behaviours) as u8;
         let process = self.process();
+        if self.random.chance(30) {
+            // A signal that waits for the spawn.
+            self.push(Op::Set(r, Value::Pid(process)));
+            let op = *self.random.pick(&[Op::Monitor(r), Op::Send(r, s)]);
+            self.push(op);
+        }
         self.push(Op::Spawn {
             r,
             behaviour,
             process,
         });
-        match self.random.below(4) {
+        match self.random.below(5) {
             0 => self.push(Op::Link(r)),
             1 => self.push(Op::Send(r, s)),
+            2 => self.push(Op::Monitor(r)),
             _ => {}
         }
     }
@@ -817,12 +1036,13 @@ impl Writer<'_> {
     }
 
     fn clause(&mut self, target: usize) -> Clause {
-        let pattern = match self.random.below(13) {
+        let pattern = match self.random.below(15) {
             0..=2 => Pattern::Any,
             3..=4 => Pattern::Int,
             5..=6 => Pattern::Atom,
             7..=8 => Pattern::Pid,
             9..=10 => Pattern::Note,
+            11..=12 => Pattern::Down,
             _ => Pattern::Exact(self.value()),
         };
         let (r, s) = (self.register(), self.register());

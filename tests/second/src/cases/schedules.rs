@@ -22,14 +22,14 @@ pub enum Goal {
 }
 
 const GOALS: [(Goal, usize); 9] = [
-    (Goal::Whole, 40),
+    (Goal::Whole, 31),
     (Goal::BadNumber, 5),
     (Goal::OwnerUnborn, 5),
     (Goal::RunOfGone, 6),
     (Goal::NoneInFlight, 5),
     (Goal::MailboxFull, 12),
     (Goal::NoFit, 7),
-    (Goal::PairFull, 12),
+    (Goal::PairFull, 21),
     (Goal::NotUnborn, 8),
 ];
 
@@ -93,7 +93,7 @@ pub fn schedule(random: &mut Random, draft: &Draft, goal: Goal) -> Vec<Step> {
     }
     if schedule.is_empty() && length > 0 {
         // Nothing is acceptable at the start.
-        schedule.push(likely_step(random, &node, 0, None).unwrap_or(Step::Run(1)));
+        schedule.push(likely_step(random, &node, 0, goal, None).unwrap_or(Step::Run(1)));
     }
     schedule.truncate(LINE_LIMIT);
     schedule
@@ -149,7 +149,7 @@ fn extend(
     let mut refused = 0;
     let mut passed_over = None;
     while schedule.len() < length && refused < PATIENCE {
-        let Some(step) = likely_step(random, node, arrivals, quiet) else {
+        let Some(step) = likely_step(random, node, arrivals, goal, quiet) else {
             break;
         };
         match step::take(node, step) {
@@ -177,7 +177,8 @@ fn extend(
 }
 
 /// Whether a refused step is of the commoner sort of its number, of which most are passed over: a
-/// msg at a full mailbox, a recv at an empty one, a send to a full pair, a spawn of a live process.
+/// msg at a full mailbox, a recv at an empty one, a send or an exit to a full pair, the end of a
+/// process to a full pair, a spawn of a live process.
 fn is_common(random: &mut Random, node: &Node, step: Step, number: u8) -> bool {
     let common = match step {
         Step::Arrive { to, from } => {
@@ -186,16 +187,17 @@ fn is_common(random: &mut Random, node: &Node, step: Step, number: u8) -> bool {
         }
         Step::Run(process) => is_common_run(node, process),
     };
-    common && random.chance(85)
+    common && random.chance(92)
 }
 
 fn is_common_run(node: &Node, process: u8) -> bool {
-    let Stage::Live(live) = node.stage(process) else {
-        return false;
+    let stage = node.stage(process);
+    let Stage::Live(live) = stage else {
+        return matches!(stage, Stage::Closing(_));
     };
     match node.current_op(process) {
         Some(Op::Recv(_)) => live.mailbox.is_empty(),
-        Some(Op::Send(..)) => true,
+        Some(Op::Send(..) | Op::Exit(..)) => true,
         Some(Op::Spawn {
             process: spawned, ..
         }) => matches!(node.stage(spawned), Stage::Live(_)),
@@ -221,36 +223,44 @@ fn likely_step(
     random: &mut Random,
     node: &Node,
     arrivals: usize,
+    goal: Goal,
     quiet: Option<u8>,
 ) -> Option<Step> {
     let arrival = if random.chance(arrivals) {
-        some_arrival(random, node)
+        some_arrival(random, node, goal)
     } else {
         None
     };
     arrival.or_else(|| some_run(random, node, quiet))
 }
 
-/// An arrival at a process that is not unborn, mostly at a live one.
-fn some_arrival(random: &mut Random, node: &Node) -> Option<Step> {
-    let only_live = random.chance(80);
-    let ready = |to: u8| match node.stage(to) {
+/// An arrival at a process that is not unborn, mostly at a live one. For a full pair ended ones are
+/// as good, and pairs that are full mostly stay so.
+fn some_arrival(random: &mut Random, node: &Node, goal: Goal) -> Option<Step> {
+    let (at_live, spared) = match goal {
+        Goal::PairFull => (30, 97),
+        _ => (80, 0),
+    };
+    let (only_live, spare_full) = (random.chance(at_live), random.chance(spared));
+    let at = |to: u8| match node.stage(to) {
         Stage::Unborn => false,
         Stage::Live(_) => true,
-        Stage::Closing { .. } | Stage::Gone => !only_live,
+        Stage::Closing(_) | Stage::Gone => !only_live,
     };
-    let count = node.flights().filter(|&(_, to, _)| ready(to)).count();
+    let ready = |&(from, to, _): &(u8, u8, &[Signal])| {
+        at(to) && !(spare_full && node.pair_is_full(from, to))
+    };
+    let count = node.flights().filter(ready).count();
     if count == 0 {
         return None;
     }
     let chosen = random.below(count);
-    let mut pairs = node.flights().filter(|&(_, to, _)| ready(to));
-    let (from, to, _) = pairs.nth(chosen)?;
+    let (from, to, _) = node.flights().filter(ready).nth(chosen)?;
     Some(Step::Arrive { to, from })
 }
 
 fn some_run(random: &mut Random, node: &Node, quiet: Option<u8>) -> Option<Step> {
-    let runs = |process: u8| matches!(node.stage(process), Stage::Live(_) | Stage::Closing { .. });
+    let runs = |process: u8| matches!(node.stage(process), Stage::Live(_) | Stage::Closing(_));
     let ready: Vec<u8> = (1..=PROCESSES).filter(|&process| runs(process)).collect();
     if ready.is_empty() {
         return None;
