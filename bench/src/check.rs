@@ -85,19 +85,27 @@ pub fn random() {
     damages();
 }
 
-/// The tuned test of soundness sees a damage of each kind; the second interpreter has no such test.
+/// The tuned test of soundness sees a damage of each kind, and none in what a stage does not hold; the second interpreter has no such test.
 fn damages() {
     let node = Loaded::new(&inputs::full()).reached();
-    let damages: [fn(&mut Node); 10] = [
+    let damages: [fn(&mut Node); 18] = [
         |node| node.behaviour_count = 9,
         |node| node.behaviours[7].count = 33,
         |node| node.behaviours[7].ops[31] = Op::Jump(33),
         |node| node.behaviours[7].ops[31] = Op::Clause(Register::R0, Register::R0, 0),
         |node| node.behaviours[7].ops[31] = Op::Spawn(Register::R0, 1, 17),
         |node| node.processes[15].links = 1 << 15,
+        |node| node.processes[15].watches = 1 << 15,
+        |node| node.processes[15].watchers = 1 << 15,
+        |node| (node.processes[15].stage, node.processes[15].watchers) = (Stage::Closing, 1 << 15),
         |node| node.processes[15].place = 33,
         |node| node.processes[15].mail[15] = Message::note(17, Value::NORMAL),
+        |node| node.processes[15].mail[15] = Message::down(17, Value::NORMAL),
+        |node| node.processes[15].mail[15] = Message::down(1, Value::pid(17)),
         |node| node.flight[15].signals[14][3] = Signal::message(Value::pid(17)),
+        |node| node.flight[15].signals[14][3] = Signal::down(Value::pid(17)),
+        |node| node.flight[15].signals[15][3] = Signal::MONITOR,
+        |node| node.flight[15].signals[15][3] = Signal::DEMONITOR,
         |node| node.flight[15].counts[14] = 5,
     ];
     assert!(node.is_sound() && node.processes[15].stage == Stage::Live, "the node is sound");
@@ -106,5 +114,16 @@ fn damages() {
         damage(&mut damaged);
         assert!(!damaged.is_sound(), "damage {k} is not seen");
         assert_eq!(damaged.play(&[Step::Run(1)]), (0, 31), "a damaged node is not played on");
+    }
+    let harmless: [fn(&mut Node); 4] = [
+        |node| node.flight[15].signals[15][3] = Signal::down(Value::NORMAL),
+        |node| node.flight[15].signals[14][3] = Signal::MONITOR,
+        |node| (node.processes[15].stage, node.processes[15].watches) = (Stage::Closing, 1 << 15),
+        |node| (node.processes[15].stage, node.processes[15].watchers) = (Stage::Gone, 1 << 15),
+    ];
+    for (k, change) in harmless.iter().enumerate() {
+        let mut changed = node.clone();
+        change(&mut changed);
+        assert!(changed.is_sound(), "change {k} is no damage");
     }
 }

@@ -12,9 +12,10 @@ pub struct Mix {
     pub case: fn(usize) -> Case,
 }
 
-pub const MIXES: [Mix; 5] = [
+pub const MIXES: [Mix; 6] = [
     Mix { name: "ring", case: ring },
     Mix { name: "links", case: links },
+    Mix { name: "watch", case: watch },
     Mix { name: "mail-last", case: mail_last },
     Mix { name: "mail-first", case: mail_first },
     Mix { name: "local", case: local },
@@ -127,6 +128,46 @@ fn exchange(done: usize) -> Vec<String> {
 fn killed(odd: usize) -> Vec<String> {
     let even = odd + 1;
     vec![run(odd), arrive(even, odd), run(9), run(9), arrive(odd, 9), run(odd), run(odd), arrive(even, odd), run(even)]
+}
+
+/// Four pairs: an odd process watches the next and gives it up, then watches process 9, which is gone, and receives what it is told. At the
+/// end each even process stops while it is watched, and tells so; process 10 fills up to the count.
+pub fn watch(count: usize) -> Case {
+    let watching = |odd: usize| {
+        let next = format!("set,1,p{}", odd + 1);
+        ops(&[&next, "set,2,p9", "monitor,1", "demonitor,1", "monitor,2", "recv,1", "clause,down,0,3,2"])
+    };
+    let behaviours = [watching(1), watching(3), watching(5), watching(7), ops(&["stop,0"]), ops(&["jump,0"])];
+    let plan = plan(&behaviours, &[1, 5, 2, 5, 3, 5, 4, 5, 5, 6]);
+    let mut steps = vec![run(9), run(9)];
+    for odd in [1, 3, 5, 7] {
+        steps.extend([run(odd), run(odd)]);
+    }
+    let closing: Vec<String> = [1, 3, 5, 7].into_iter().flat_map(stopped).collect();
+    for odd in [1, 3, 5, 7].into_iter().cycle() {
+        let watches = watches(odd);
+        if steps.len() + watches.len() + closing.len() > count {
+            break;
+        }
+        steps.extend(watches);
+    }
+    while steps.len() + closing.len() < count {
+        steps.push(run(10));
+    }
+    steps.extend(closing);
+    Case { plan, steps: first(steps.into_iter(), count) }
+}
+
+/// A pair: one process watches the other and gives it up, then watches process 9, and receives that there is none.
+fn watches(odd: usize) -> Vec<String> {
+    let even = odd + 1;
+    vec![run(odd), arrive(even, odd), run(odd), arrive(even, odd), run(odd), arrive(9, odd), arrive(odd, 9), run(odd)]
+}
+
+/// An even process stops while it is watched, tells its watcher and goes.
+fn stopped(odd: usize) -> Vec<String> {
+    let even = odd + 1;
+    vec![run(odd), arrive(even, odd), run(even), run(even), run(even), arrive(odd, even)]
 }
 
 /// Fifteen messages that no clause takes, then one at a time that only the last of eight clauses takes.

@@ -49,7 +49,7 @@ pub fn bars(times: &Times) {
     println!("between plays of 4,096 and 512 steps, by the number of steps between. A message is sent, arrives and is received: three further steps of");
     println!("the ring. Erlang's own machine was measured at 371 ns and more for one.\n");
     bars::heads();
-    for mix in ["ring", "links", "mail-first", "local"] {
+    for mix in ["ring", "links", "watch", "mail-first", "local"] {
         ratio_row(&format!("`play`, {mix}, a further step"), &NANOSECONDS, further(times, mix), 1.6, "1.25");
     }
     ratio_row("`play`, mail-last, a further step", &NANOSECONDS, further(times, "mail-last"), 0.9, "0.35, by M-106");
@@ -154,8 +154,8 @@ pub fn texts(times: &Times, bars: &mut Bars) {
 
 pub fn reached(times: &Times) {
     println!("## sound and list: time a node\n");
-    println!("The bytes are those of the node's listing. Small is one process; ring, links and the longest plan are behind 512 steps; nearly full");
-    println!("are 15 mailboxes of 16 messages and 240 pairs of 4 signals. A listing looks at soundness first, the tuned Rust's too.\n");
+    println!("The bytes are those of the node's listing. Small is one process; ring, links, watch and the longest plan are behind 512 steps; nearly");
+    println!("full are 15 mailboxes of 16 messages and 240 pairs of 4 signals. A listing looks at soundness first, the tuned Rust's too.\n");
     heads();
     for (name, case) in nodes() {
         let mut out = vec![0; open_controller::OUTPUT];

@@ -3,7 +3,7 @@
 use crate::check;
 use crate::inputs;
 use crate::measure::{rounds, Call};
-use crate::mixes::{links, ring, Case, MIXES};
+use crate::mixes::{links, ring, watch, Case, MIXES};
 use crate::proved;
 use crate::yardstick::{self, Loaded};
 use std::collections::BTreeMap;
@@ -44,6 +44,7 @@ pub fn nodes() -> Vec<(&'static str, Case)> {
         ("small", inputs::small()),
         ("ring", ring(512)),
         ("links", links(512)),
+        ("watch", watch(512)),
         ("longest plan", inputs::longest(512)),
         ("nearly full", inputs::full()),
     ]

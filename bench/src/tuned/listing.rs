@@ -116,7 +116,8 @@ impl Writer<'_> {
             Stage::Unborn | Stage::Gone => self.text(b"stage=gone\n"),
             Stage::Closing => {
                 self.value_line(b"stage=closing\nreason=", process.registers[0]);
-                self.links(process.links);
+                self.set(b"links=\n", process.links);
+                self.set(b"watchers=\n", process.watchers);
             }
             Stage::Live => self.live(process),
         }
@@ -131,12 +132,14 @@ impl Writer<'_> {
         self.value_line(b"r2=", r2);
         self.value_line(b"r3=", r3);
         self.text(if process.trap { b"trap=1\n" } else { b"trap=0\n" });
-        self.links(process.links);
+        self.set(b"links=\n", process.links);
+        self.set(b"watches=\n", process.watches);
+        self.set(b"watchers=\n", process.watchers);
         self.number_line(b"mail=", u32::from(process.count));
         for k in 0..process.count {
             let message = process.message(k);
             if let Some(sender) = message.sender() {
-                self.text(b"note=p");
+                self.text(if message.is_down() { b"down=p" } else { b"note=p" });
                 self.number(u32::from(sender));
                 self.value_line(b",", message.value());
             } else {
@@ -145,9 +148,18 @@ impl Writer<'_> {
         }
     }
 
-    fn links(&mut self, links: u16) {
-        self.text(b"links=");
-        let mut rest = links;
+    /// The line of an empty set is given; the numbers go before its end.
+    #[inline]
+    fn set(&mut self, empty: &[u8], processes: u16) {
+        self.text(empty);
+        if processes != 0 {
+            self.length -= 1;
+            self.members(processes);
+        }
+    }
+
+    fn members(&mut self, processes: u16) {
+        let mut rest = processes;
         while rest != 0 {
             self.number(rest.trailing_zeros() + 1);
             rest &= rest - 1;
@@ -183,6 +195,9 @@ impl Writer<'_> {
             SignalKind::LinkedExit => self.exit(signal.value(), b",1\n"),
             SignalKind::Link => self.text(b"signal=link\n"),
             SignalKind::Unlink => self.text(b"signal=unlink\n"),
+            SignalKind::Monitor => self.text(b"signal=monitor\n"),
+            SignalKind::Demonitor => self.text(b"signal=demonitor\n"),
+            SignalKind::Down => self.value_line(b"signal=down,", signal.value()),
         }
     }
 

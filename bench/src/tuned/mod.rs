@@ -1,6 +1,6 @@
-//! Document 01 in plain Rust that is written for speed: the yardstick of the proved library. One node is changed in place and nothing is
-//! allocated; each call looks at the same refusals in the same order as the proved one. The search of a recv is document 01's: messages in
-//! mailbox order and, for each, clauses in their order.
+//! Document 01 with M-100 in plain Rust that is written for speed: the yardstick of the proved library. One node is changed in place and
+//! nothing is allocated; each call looks at the same refusals in the same order as the proved one. The search of a recv is document 01's:
+//! messages in mailbox order and, for each, clauses in their order.
 
 pub mod listing;
 pub mod plan;
@@ -52,6 +52,8 @@ pub enum Op {
     Same(Register, Value, u8),
     Less(Register, Register, u8),
     Stop(Register),
+    Monitor(Register),
+    Demonitor(Register),
     /// What stands at place N and behind it, so that a place needs no test against N.
     End,
 }
@@ -82,8 +84,10 @@ pub struct Process {
     pub trap: bool,
     pub first: u8,
     pub count: u8,
-    /// Bit k is process k + 1.
+    /// Sets of processes: bit k is process k + 1.
     pub links: u16,
+    pub watches: u16,
+    pub watchers: u16,
     pub registers: [Value; 4],
     pub mail: [Message; MAILBOX],
 }
@@ -168,7 +172,7 @@ impl Op {
 impl Process {
     pub const UNBORN: Process = Process::fresh(Stage::Unborn, 0, Value::int(0));
 
-    /// As spawned: place 0, the first register given and the others i0, no links, trap 0, no mail.
+    /// As spawned: place 0, the first register given and the others i0, no links, watches or watchers, trap 0, no mail.
     pub const fn fresh(stage: Stage, behaviour: u8, r0: Value) -> Process {
         let zero = Value::int(0);
         Process {
@@ -179,6 +183,8 @@ impl Process {
             first: 0,
             count: 0,
             links: 0,
+            watches: 0,
+            watchers: 0,
             registers: [r0, zero, zero, zero],
             mail: [Message::of(zero); MAILBOX],
         }

@@ -32,12 +32,15 @@ mod words {
     pub const SAME: u64 = word(b"same");
     pub const LESS: u64 = word(b"less");
     pub const STOP: u64 = word(b"stop");
+    pub const MONITOR: u64 = word(b"monitor");
+    pub const DEMONITOR: u64 = word(b"demonitor");
 
     pub const ANY: u64 = word(b"any");
     pub const INT: u64 = word(b"int");
     pub const ATOM: u64 = word(b"atom");
     pub const PID: u64 = word(b"pid");
     pub const NOTE: u64 = word(b"note");
+    pub const DOWN: u64 = word(b"down");
 
     // The letters of values.
     pub const I: u64 = word(b"i");
@@ -194,6 +197,8 @@ impl Plan<'_> {
             words::SAME => Op::Same(self.register()?, self.value()?, self.place()?),
             words::LESS => Op::Less(self.register()?, self.register()?, self.place()?),
             words::STOP => Op::Stop(self.register()?),
+            words::MONITOR => Op::Monitor(self.register()?),
+            words::DEMONITOR => Op::Demonitor(self.register()?),
             _ => return Err(Malformed),
         })
     }
@@ -254,6 +259,7 @@ impl Plan<'_> {
             words::ATOM => Pattern::ATOM,
             words::PID => Pattern::PID,
             words::NOTE => Pattern::NOTE,
+            words::DOWN => Pattern::DOWN,
             letter => Pattern::exact(self.value_behind(letter)?),
         })
     }

@@ -26,8 +26,8 @@ impl Row {
                 return false;
             }
             let good = (0..self.counts[to]).map(|k| self.signal(to, k)).all(|signal| match signal.kind() {
-                SignalKind::Link | SignalKind::Unlink => from != to,
-                _ => signal.value().is_sound(),
+                SignalKind::Link | SignalKind::Unlink | SignalKind::Monitor | SignalKind::Demonitor => from != to,
+                SignalKind::Message | SignalKind::Exit | SignalKind::LinkedExit | SignalKind::Down => signal.value().is_sound(),
             });
             if !good {
                 return false;
@@ -79,12 +79,12 @@ impl Behaviour {
 impl Process {
     #[inline]
     fn is_sound(&self, i: usize, behaviours: &[Behaviour]) -> bool {
-        let unlinked = self.links >> i & 1 == 0;
+        let in_none = |sets: u16| sets >> i & 1 == 0;
         match self.stage {
             Stage::Unborn | Stage::Gone => true,
-            Stage::Closing => unlinked && self.registers[0].is_sound(),
+            Stage::Closing => in_none(self.links | self.watchers) && self.registers[0].is_sound(),
             Stage::Live => {
-                unlinked
+                in_none(self.links | self.watches | self.watchers)
                     && behaviours.get(usize::from(self.behaviour)).is_some_and(|behaviour| self.place_is_sound(behaviour))
                     && self.registers.into_iter().all(Value::is_sound)
                     && usize::from(self.count) <= MAILBOX

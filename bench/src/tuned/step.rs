@@ -11,15 +11,19 @@ pub enum Step {
     Arrive { to: u8, from: u8 },
 }
 
-/// The refusals of steps; each leaves the node unchanged.
-const BAD_NUMBER: u8 = 20;
-const OWNER_UNBORN: u8 = 21;
-const RUN_OF_GONE: u8 = 22;
-const NONE_IN_FLIGHT: u8 = 23;
-const MAILBOX_FULL: u8 = 24;
-const NO_FIT: u8 = 25;
-const PAIR_FULL: u8 = 26;
-const NOT_UNBORN: u8 = 27;
+/// The refusals of steps by their numbers; each leaves the node unchanged.
+#[derive(Clone, Copy)]
+#[repr(u8)]
+enum Refusal {
+    BadNumber = 20,
+    OwnerUnborn = 21,
+    RunOfGone = 22,
+    NoneInFlight = 23,
+    MailboxFull = 24,
+    NoFit = 25,
+    PairFull = 26,
+    NotUnborn = 27,
+}
 
 impl Node {
     /// Takes the steps until one is refused; answers how many were accepted, and the refusal, or 0.
@@ -38,21 +42,21 @@ impl Node {
         if !self.is_sound() {
             return NOT_SOUND;
         }
-        self.take(step).err().unwrap_or(0)
+        self.take(step).err().map_or(0, |refusal| refusal as u8)
     }
 
     #[inline(never)]
     fn play_on(&mut self, steps: &[Step]) -> (usize, u8) {
         for (accepted, &step) in steps.iter().enumerate() {
             if let Err(refusal) = self.take(step) {
-                return (accepted, refusal);
+                return (accepted, refusal as u8);
             }
         }
         (steps.len(), 0)
     }
 
     #[inline(always)]
-    fn take(&mut self, step: Step) -> Result<(), u8> {
+    fn take(&mut self, step: Step) -> Result<(), Refusal> {
         match step {
             Step::Run(process) => self.run(index(process)?),
             Step::Arrive { to, from } => self.arrive(index(to)?, index(from)?),
@@ -60,7 +64,7 @@ impl Node {
     }
 
     #[inline(always)]
-    fn run(&mut self, i: usize) -> Result<(), u8> {
+    fn run(&mut self, i: usize) -> Result<(), Refusal> {
         if self.processes[i].stage == Stage::Live {
             self.run_live(i)
         } else {
@@ -68,41 +72,44 @@ impl Node {
         }
     }
 
-    /// A closing process sends one exit signal to its lowest link; without links it goes.
+    /// A closing process sends one exit signal to its lowest link or, without links, one down to its lowest watcher; without either it goes.
     #[cold]
     #[inline(never)]
-    fn run_other(&mut self, i: usize) -> Result<(), u8> {
+    fn run_other(&mut self, i: usize) -> Result<(), Refusal> {
         let process = &mut self.processes[i];
         match process.stage {
-            Stage::Unborn => return Err(OWNER_UNBORN),
-            Stage::Gone => return Err(RUN_OF_GONE),
+            Stage::Unborn => return Err(Refusal::OwnerUnborn),
+            Stage::Gone => return Err(Refusal::RunOfGone),
             Stage::Live | Stage::Closing => {}
         }
-        if process.links == 0 {
+        let reason = process.registers[0];
+        let (set, signal) = match process.links {
+            0 => (&mut process.watchers, Signal::down(reason)),
+            _ => (&mut process.links, Signal::exit(reason, SignalKind::LinkedExit)),
+        };
+        if *set == 0 {
             process.stage = Stage::Gone;
             return Ok(());
         }
-        let lowest = process.links.trailing_zeros() as usize;
-        self.flight[i].push(lowest % PROCESSES, Signal::exit(process.registers[0], SignalKind::LinkedExit))?;
-        process.links &= process.links - 1;
+        let lowest = set.trailing_zeros() as usize;
+        self.flight[i].push(lowest % PROCESSES, signal)?;
+        *set &= *set - 1;
         Ok(())
     }
 
     #[inline(always)]
-    fn run_live(&mut self, i: usize) -> Result<(), u8> {
+    fn run_live(&mut self, i: usize) -> Result<(), Refusal> {
         let process = &mut self.processes[i];
-        let row = &mut self.flight[i];
-        let own = Value::pid(i as u8 + 1);
         let behaviour = &self.behaviours[usize::from(process.behaviour)];
         match behaviour.ops[usize::from(process.place)] {
             Op::Set(r, value) => process.set(r, value),
             Op::Copy(r, s) => process.set(r, process.get(s)),
-            Op::Own(r) => process.set(r, own),
+            Op::Own(r) => process.set(r, Value::pid(i as u8 + 1)),
             Op::Add(r, s) => process.add(r, s),
-            Op::Send(r, s) => process.send(row, r, Signal::message(process.get(s)))?,
-            Op::Exit(r, s) => process.send(row, r, Signal::exit(process.get(s), SignalKind::Exit))?,
-            Op::Link(r) => process.link(row, own, r, Signal::LINK)?,
-            Op::Unlink(r) => process.link(row, own, r, Signal::UNLINK)?,
+            Op::Send(r, s) => process.send(&mut self.flight[i], r, Signal::message(process.get(s)))?,
+            Op::Exit(r, s) => process.send(&mut self.flight[i], r, Signal::exit(process.get(s), SignalKind::Exit))?,
+            Op::Link(r) => process.links |= process.send_to_other(&mut self.flight[i], i, r, Signal::LINK)?,
+            Op::Unlink(r) => process.links &= !process.send_to_other(&mut self.flight[i], i, r, Signal::UNLINK)?,
             Op::Trap(flag) => process.set_trap(flag),
             Op::Spawn(r, behaviour, spawned) => self.spawn(i, r, behaviour, spawned)?,
             Op::Recv(count) => process.receive(behaviour, count)?,
@@ -112,15 +119,17 @@ impl Node {
             Op::Same(r, value, target) => process.branch(process.get(r) == value, target),
             Op::Less(r, s, target) => process.less(r, s, target),
             Op::Stop(r) => process.end(process.get(r)),
+            Op::Monitor(r) => process.watches |= process.send_to_other(&mut self.flight[i], i, r, Signal::MONITOR)?,
+            Op::Demonitor(r) => process.watches &= !process.send_to_other(&mut self.flight[i], i, r, Signal::DEMONITOR)?,
             Op::End => process.end(Value::NORMAL),
         }
         Ok(())
     }
 
-    fn spawn(&mut self, i: usize, r: Register, behaviour: u8, spawned: u8) -> Result<(), u8> {
+    fn spawn(&mut self, i: usize, r: Register, behaviour: u8, spawned: u8) -> Result<(), Refusal> {
         let born = &mut self.processes[usize::from(spawned - 1) % PROCESSES];
         if born.stage != Stage::Unborn {
-            return Err(NOT_UNBORN);
+            return Err(Refusal::NotUnborn);
         }
         *born = Process::fresh(Stage::Live, behaviour - 1, Value::pid(i as u8 + 1));
         self.processes[i].set(r, Value::pid(spawned));
@@ -128,39 +137,54 @@ impl Node {
     }
 
     #[inline(always)]
-    fn arrive(&mut self, to: usize, from: usize) -> Result<(), u8> {
+    fn arrive(&mut self, to: usize, from: usize) -> Result<(), Refusal> {
         let process = &mut self.processes[to];
         if process.stage == Stage::Unborn {
-            return Err(OWNER_UNBORN);
+            return Err(Refusal::OwnerUnborn);
         }
         let row = &mut self.flight[from];
         if row.counts[to] == 0 {
-            return Err(NONE_IN_FLIGHT);
+            return Err(Refusal::NoneInFlight);
         }
-        if process.stage == Stage::Live {
-            let signal = row.signal(to, 0);
-            let from = from as u8 + 1;
-            match signal.kind() {
-                SignalKind::Message => process.join(Message::of(signal.value()))?,
-                SignalKind::Link => process.relink(from, true),
-                SignalKind::Unlink => process.relink(from, false),
-                SignalKind::Exit => process.exited(from, signal.value(), from == to as u8 + 1)?,
-                SignalKind::LinkedExit => process.exited_along_link(from, signal.value())?,
-            }
+        if process.stage != Stage::Live {
+            return self.arrive_at_ended(to, from);
+        }
+        let signal = row.signal(to, 0);
+        let from = from as u8 + 1;
+        match signal.kind() {
+            SignalKind::Message => process.join(Message::of(signal.value()))?,
+            SignalKind::Link => process.links |= bit(from),
+            SignalKind::Unlink => process.links &= !bit(from),
+            SignalKind::Exit => process.exited(from, signal.value(), from == to as u8 + 1)?,
+            SignalKind::LinkedExit => process.exited_along_link(from, signal.value())?,
+            SignalKind::Monitor => process.watchers |= bit(from),
+            SignalKind::Demonitor => process.watchers &= !bit(from),
+            SignalKind::Down => process.down(from, signal.value())?,
         }
         row.pop(to);
+        Ok(())
+    }
+
+    /// At a closing or gone process every signal is dropped; a monitor is answered.
+    #[cold]
+    #[inline(never)]
+    fn arrive_at_ended(&mut self, to: usize, from: usize) -> Result<(), Refusal> {
+        if self.flight[from].signal(to, 0).kind() == SignalKind::Monitor {
+            self.flight[to].push(from, Signal::down(Value::NOPROC))?;
+        }
+        self.flight[from].pop(to);
         Ok(())
     }
 }
 
 /// The index of a process number; 20 outside 1 to 16.
 #[inline]
-fn index(process: u8) -> Result<usize, u8> {
+fn index(process: u8) -> Result<usize, Refusal> {
     let index = usize::from(process.wrapping_sub(1));
     if index < PROCESSES {
         Ok(index)
     } else {
-        Err(BAD_NUMBER)
+        Err(Refusal::BadNumber)
     }
 }
 
@@ -177,10 +201,10 @@ fn fit(patterns: &[Pattern], message: Message) -> Option<usize> {
 
 impl Row {
     #[inline]
-    fn push(&mut self, to: usize, signal: Signal) -> Result<(), u8> {
+    fn push(&mut self, to: usize, signal: Signal) -> Result<(), Refusal> {
         let count = self.counts[to];
         if usize::from(count) >= PAIR {
-            return Err(PAIR_FULL);
+            return Err(Refusal::PairFull);
         }
         self.signals[to][usize::from(self.firsts[to] + count) % PAIR] = signal;
         self.counts[to] = count + 1;
@@ -236,34 +260,36 @@ impl Process {
 
     /// A signal to the process whose number is in r; `row` has those that it sent.
     #[inline]
-    fn send(&mut self, row: &mut Row, r: Register, signal: Signal) -> Result<(), u8> {
-        let Some(to) = self.get(r).as_pid() else {
+    fn send(&mut self, row: &mut Row, r: Register, signal: Signal) -> Result<(), Refusal> {
+        let Some(to) = self.receiver(r) else {
             self.end(Value::BADARG);
             return Ok(());
         };
-        row.push(usize::from(to - 1) % PROCESSES, signal)?;
+        row.push(to, signal)?;
         self.place += 1;
         Ok(())
     }
 
-    /// A link or unlink signal, and the links with it; nothing to itself.
+    /// The same, but nothing to itself; answers the set of the process that the signal was sent to.
     #[inline]
-    fn link(&mut self, row: &mut Row, own: Value, r: Register, signal: Signal) -> Result<(), u8> {
-        let to = self.get(r);
+    fn send_to_other(&mut self, row: &mut Row, own: usize, r: Register, signal: Signal) -> Result<u16, Refusal> {
+        let Some(to) = self.receiver(r) else {
+            self.end(Value::BADARG);
+            return Ok(0);
+        };
         if to == own {
             self.place += 1;
-            return Ok(());
+            return Ok(0);
         }
-        self.send(row, r, signal)?;
-        if let Some(to) = to.as_pid() {
-            self.relink(to, signal.kind() == SignalKind::Link);
-        }
-        Ok(())
+        row.push(to, signal)?;
+        self.place += 1;
+        Ok(1 << to)
     }
 
+    /// The index of the process whose number is in r.
     #[inline]
-    fn relink(&mut self, to: u8, linked: bool) {
-        self.links = self.links & !bit(to) | if linked { bit(to) } else { 0 };
+    fn receiver(&self, r: Register) -> Option<usize> {
+        self.get(r).as_pid().map(|to| usize::from(to - 1) % PROCESSES)
     }
 
     #[inline]
@@ -271,7 +297,7 @@ impl Process {
         self.place = if taken { target } else { self.place + 1 };
     }
 
-    /// The process goes closing, its links unchanged.
+    /// The process goes closing, its links and watchers unchanged.
     #[inline]
     fn end(&mut self, reason: Value) {
         self.stage = Stage::Closing;
@@ -279,9 +305,9 @@ impl Process {
     }
 
     #[inline]
-    fn join(&mut self, message: Message) -> Result<(), u8> {
+    fn join(&mut self, message: Message) -> Result<(), Refusal> {
         if usize::from(self.count) >= MAILBOX {
-            return Err(MAILBOX_FULL);
+            return Err(Refusal::MailboxFull);
         }
         self.mail[usize::from(self.first + self.count) % MAILBOX] = message;
         self.count += 1;
@@ -289,7 +315,7 @@ impl Process {
     }
 
     /// An exit signal that came along no link: lines 2 to 5.
-    fn exited(&mut self, from: u8, reason: Value, own: bool) -> Result<(), u8> {
+    fn exited(&mut self, from: u8, reason: Value, own: bool) -> Result<(), Refusal> {
         if reason == Value::KILL {
             self.end(Value::KILLED);
         } else if self.trap {
@@ -301,7 +327,7 @@ impl Process {
     }
 
     /// One that came along a link: lines 1, 3, 4 and 5; no process has a link to itself.
-    fn exited_along_link(&mut self, from: u8, reason: Value) -> Result<(), u8> {
+    fn exited_along_link(&mut self, from: u8, reason: Value) -> Result<(), Refusal> {
         if self.links & bit(from) == 0 {
             return Ok(());
         }
@@ -314,12 +340,21 @@ impl Process {
         Ok(())
     }
 
+    /// A down: a message if the watch still stands, which ends by it.
+    fn down(&mut self, from: u8, reason: Value) -> Result<(), Refusal> {
+        if self.watches & bit(from) != 0 {
+            self.join(Message::down(from, reason))?;
+            self.watches &= !bit(from);
+        }
+        Ok(())
+    }
+
     #[inline]
-    fn receive(&mut self, behaviour: &Behaviour, count: u8) -> Result<(), u8> {
+    fn receive(&mut self, behaviour: &Behaviour, count: u8) -> Result<(), Refusal> {
         let next = usize::from(self.place) + 1;
-        let (k, clause) = self.first_fit(&behaviour.patterns[next..][..usize::from(count)]).ok_or(NO_FIT)?;
+        let (k, clause) = self.first_fit(&behaviour.patterns[next..][..usize::from(count)]).ok_or(Refusal::NoFit)?;
         // The n ops behind the recv of a sound node are clauses.
-        let Op::Clause(r, s, target) = behaviour.ops[next + clause] else { return Err(NO_FIT) };
+        let Op::Clause(r, s, target) = behaviour.ops[next + clause] else { return Err(Refusal::NoFit) };
         let message = self.message(k);
         self.remove(k);
         match message.sender() {

@@ -59,20 +59,26 @@ impl Reader<'_> {
             if !byte.is_ascii_lowercase() {
                 break;
             }
-            word = word << 8 | u64::from(byte);
+            word = with_letter(word, byte);
             self.rest = rest;
         }
         word
     }
 }
 
-/// Up to eight letters as a number; a longer word has the number of its last eight, which is none of a shorter one.
+/// Up to eleven letters as a number that no other word has: no letter is 0 modulo 32, so from the last letter on each can be read again, and
+/// that there are no more.
 pub const fn word(letters: &[u8]) -> u64 {
     let mut word = 0;
     let mut k = 0;
     while k < letters.len() {
-        word = word << 8 | letters[k] as u64;
+        word = with_letter(word, letters[k]);
         k += 1;
     }
     word
+}
+
+#[inline]
+const fn with_letter(word: u64, letter: u8) -> u64 {
+    (word << 5).wrapping_add(letter as u64)
 }

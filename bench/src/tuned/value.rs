@@ -1,5 +1,5 @@
 //! Values, messages and signals, each one word: the number in the low 32 bits, the kind of the value in the next eight, then the sender of a
-//! note, then what the word is. So they are moved and compared as words, and a pattern is a mask and what it has to leave.
+//! note or a down, then what the word is. So they are moved and compared as words, and a pattern is a mask and what it has to leave.
 
 const KIND: u32 = 32;
 const SENDER: u32 = 40;
@@ -8,7 +8,9 @@ const SORT: u32 = 48;
 const NUMBER_BITS: u64 = (1 << KIND) - 1;
 const VALUE_BITS: u64 = (1 << SENDER) - 1;
 
+/// What a message is that tells of another process; a value has 0.
 const NOTE: u64 = 1 << SORT;
+const DOWN: u64 = 2 << SORT;
 
 #[derive(Clone, Copy, PartialEq, Eq)]
 pub struct Value(u64);
@@ -26,6 +28,7 @@ impl Value {
     pub const KILLED: Value = Value::atom(2);
     pub const BADARG: Value = Value::atom(3);
     pub const BADARITH: Value = Value::atom(4);
+    pub const NOPROC: Value = Value::atom(5);
 
     const fn new(kind: Kind, number: u32) -> Value {
         Value((kind as u64) << KIND | number as u64)
@@ -82,7 +85,7 @@ impl Value {
     }
 }
 
-/// A value, or a note of a sender and a reason.
+/// A value, or a note or a down of a sender and a reason.
 #[derive(Clone, Copy)]
 pub struct Message(u64);
 
@@ -97,16 +100,26 @@ impl Message {
         Message(NOTE | u64::from(sender) << SENDER | reason.0)
     }
 
-    /// The value, or a note's reason.
+    #[inline]
+    pub fn down(sender: u8, reason: Value) -> Message {
+        Message(DOWN | u64::from(sender) << SENDER | reason.0)
+    }
+
+    /// The value, or the reason of a note or a down.
     #[inline]
     pub fn value(self) -> Value {
         Value(self.0 & VALUE_BITS)
     }
 
-    /// The sender of a note.
+    /// The sender of a note or a down.
     #[inline]
     pub fn sender(self) -> Option<u8> {
-        (self.0 & NOTE != 0).then_some((self.0 >> SENDER) as u8)
+        (self.0 >> SORT != 0).then_some((self.0 >> SENDER) as u8)
+    }
+
+    #[inline]
+    pub fn is_down(self) -> bool {
+        self.0 & DOWN != 0
     }
 
     #[inline]
@@ -128,6 +141,7 @@ impl Pattern {
     pub const ATOM: Pattern = Pattern::kind(Kind::Atom);
     pub const PID: Pattern = Pattern::kind(Kind::Pid);
     pub const NOTE: Pattern = Pattern { mask: NOTE, wanted: NOTE };
+    pub const DOWN: Pattern = Pattern { mask: DOWN, wanted: DOWN };
 
     const fn kind(kind: Kind) -> Pattern {
         Pattern { mask: !NUMBER_BITS, wanted: (kind as u64) << KIND }
@@ -158,13 +172,19 @@ pub enum SignalKind {
     Exit,
     /// An exit along a link.
     LinkedExit,
+    Down,
+    // From here on there is no value.
     Link,
     Unlink,
+    Monitor,
+    Demonitor,
 }
 
 impl Signal {
     pub const LINK: Signal = Signal((SignalKind::Link as u64) << SORT);
     pub const UNLINK: Signal = Signal((SignalKind::Unlink as u64) << SORT);
+    pub const MONITOR: Signal = Signal((SignalKind::Monitor as u64) << SORT);
+    pub const DEMONITOR: Signal = Signal((SignalKind::Demonitor as u64) << SORT);
 
     #[inline]
     pub fn message(value: Value) -> Signal {
@@ -177,13 +197,21 @@ impl Signal {
     }
 
     #[inline]
+    pub fn down(reason: Value) -> Signal {
+        Signal((SignalKind::Down as u64) << SORT | reason.0)
+    }
+
+    #[inline]
     pub fn kind(self) -> SignalKind {
         match self.0 >> SORT {
             0 => SignalKind::Message,
             1 => SignalKind::Exit,
             2 => SignalKind::LinkedExit,
-            3 => SignalKind::Link,
-            _ => SignalKind::Unlink,
+            3 => SignalKind::Down,
+            4 => SignalKind::Link,
+            5 => SignalKind::Unlink,
+            6 => SignalKind::Monitor,
+            _ => SignalKind::Demonitor,
         }
     }
 
