@@ -23,7 +23,7 @@ use Rattle.node.specs.Blocks.{changed, joined, left, popped, emptied}
 use Rattle.node.specs.Mailboxes.{noMessage, messages, slotOf}
 use Rattle.node.specs.Nodes.{pair}
 use Rattle.node.specs.Ops.{stopOp, kindsOf}
-use Rattle.node.specs.Processes.{unborn, fresh, register, withRegister, moved, advanced, trapped, linksTo, linked, unlinked, ended, gone, withPlace}
+use Rattle.node.specs.Processes.{processOf, unborn, fresh, register, withRegister, moved, advanced, trapped, linksTo, linked, unlinked, ended, gone, withPlace}
 use Rattle.node.specs.Processes.{watchesOver, watching, unwatching, watched, unwatched, withWatches, withWatchers}
 use Rattle.node.specs.Sets.{noPeers, bitsOf, has, withPeer, withoutPeer, lowestPeer}
 use Rattle.node.specs.Rows.{noSignal, signals, cellOf}
@@ -100,54 +100,15 @@ holding k x n = record {
 
 -- process 1 in behaviour b, with r0 = v, r1 = w, the trap flag and the links
 rower : ℕ → Value → Value → Bool → Peers → Process
-rower b v w f links = record {
-  stage = Live;
-  behaviour = record { 0 = b };
-  place = 0;
-  trap = f;
-  r0 = v;
-  r1 = w;
-  r2 = intZero;
-  r3 = intZero;
-  links = links;
-  watches = noPeers;
-  watchers = noPeers;
-  reason = intZero;
-}
+rower b v w f links = processOf Live (record { 0 = b }) 0 f v w intZero intZero links noPeers noPeers intZero
 
 -- process 1 in behaviour 1, ended with a reason: its registers r0 and r1, its trap flag and its links
 closed : Value → Value → Bool → Peers → Value → Process
-closed v w f links reason = record {
-  stage = Closing;
-  behaviour = record { 0 = 1 };
-  place = 0;
-  trap = f;
-  r0 = v;
-  r1 = w;
-  r2 = intZero;
-  r3 = intZero;
-  links = links;
-  watches = noPeers;
-  watchers = noPeers;
-  reason = reason;
-}
+closed v w f links reason = processOf Closing (record { 0 = 1 }) 0 f v w intZero intZero links noPeers noPeers reason
 
 -- process 1, gone
 over : Process
-over = record {
-  stage = Gone;
-  behaviour = record { 0 = 1 };
-  place = 0;
-  trap = false;
-  r0 = intZero;
-  r1 = intZero;
-  r2 = intZero;
-  r3 = intZero;
-  links = noPeers;
-  watches = noPeers;
-  watchers = noPeers;
-  reason = normal;
-}
+over = processOf Gone (record { 0 = 1 }) 0 false intZero intZero intZero intZero noPeers noPeers noPeers normal
 
 -- ---- a row of the table
 

@@ -1,4 +1,5 @@
 -- Processes (document 01, "The node" and "Ending"), and what a step makes of one.
+--   processOf ..       a process by its fields, in the order of their declaration
 --   unborn             an unborn process
 --   fresh b v          a process that starts behaviour b with v in r0
 --   register p r       the content of register r
@@ -31,90 +32,41 @@ use Rattle.node.specs.declared.Value.{Value}
 use Rattle.node.specs.Sets.{noPeers, has, withPeer, withoutPeer}
 use Rattle.node.specs.Values.{intZero}
 
-abbrev pub unborn : Process
-unborn = record {
-  stage = Unborn;
-  behaviour = record { 0 = 0 };
-  place = 0;
-  trap = false;
-  r0 = intZero;
-  r1 = intZero;
-  r2 = intZero;
-  r3 = intZero;
-  links = noPeers;
-  watches = noPeers;
-  watchers = noPeers;
-  reason = intZero;
-}
-
--- "place 0, its r0 the spawner's number, other registers i0, no links, trap 0"
-abbrev pub fresh : BehaviourNumber → Value → Process
-fresh b v = record { stage = Live; behaviour = b; place = 0; r0 = v; r1 = intZero; r2 = intZero; r3 = intZero; trap = false; links = noPeers; watches = noPeers; watchers = noPeers; reason = intZero }
-
--- one field anew, the others as they are
-abbrev pub withPlace : Process → ℕ → Process
-withPlace p t = record {
-  stage = p .stage;
-  behaviour = p .behaviour;
-  place = t;
-  trap = p .trap;
-  r0 = p .r0;
-  r1 = p .r1;
-  r2 = p .r2;
-  r3 = p .r3;
-  links = p .links;
-  watches = p .watches;
-  watchers = p .watchers;
-  reason = p .reason;
-}
-
-abbrev pub withRegisters : Process → Value → Value → Value → Value → Process
-withRegisters p a b c d = record {
-  stage = p .stage;
-  behaviour = p .behaviour;
-  place = p .place;
-  trap = p .trap;
-  r0 = a;
-  r1 = b;
-  r2 = c;
-  r3 = d;
-  links = p .links;
-  watches = p .watches;
-  watchers = p .watchers;
-  reason = p .reason;
-}
-
-abbrev pub withTrap : Process → Bool → Process
-withTrap p f = record {
-  stage = p .stage;
-  behaviour = p .behaviour;
-  place = p .place;
-  trap = f;
-  r0 = p .r0;
-  r1 = p .r1;
-  r2 = p .r2;
-  r3 = p .r3;
-  links = p .links;
-  watches = p .watches;
-  watchers = p .watchers;
-  reason = p .reason;
-}
-
-abbrev pub withSets : Process → Peers → Peers → Peers → Process
-withSets p links watches watchers = record {
-  stage = p .stage;
-  behaviour = p .behaviour;
-  place = p .place;
-  trap = p .trap;
-  r0 = p .r0;
-  r1 = p .r1;
-  r2 = p .r2;
-  r3 = p .r3;
+abbrev pub processOf : Stage → BehaviourNumber → ℕ → Bool → Value → Value → Value → Value → Peers → Peers → Peers → Value → Process
+processOf stage behaviour place trap r0 r1 r2 r3 links watches watchers reason = record {
+  stage = stage;
+  behaviour = behaviour;
+  place = place;
+  trap = trap;
+  r0 = r0;
+  r1 = r1;
+  r2 = r2;
+  r3 = r3;
   links = links;
   watches = watches;
   watchers = watchers;
-  reason = p .reason;
+  reason = reason;
 }
+
+abbrev pub unborn : Process
+unborn = processOf Unborn (record { 0 = 0 }) 0 false intZero intZero intZero intZero noPeers noPeers noPeers intZero
+
+-- "place 0, its r0 the spawner's number, other registers i0, no links, trap 0", and nobody watched or watching
+abbrev pub fresh : BehaviourNumber → Value → Process
+fresh b v = processOf Live b 0 false v intZero intZero intZero noPeers noPeers noPeers intZero
+
+-- one part anew, the others as they are
+abbrev pub withPlace : Process → ℕ → Process
+withPlace p t = processOf (p .stage) (p .behaviour) t (p .trap) (p .r0) (p .r1) (p .r2) (p .r3) (p .links) (p .watches) (p .watchers) (p .reason)
+
+abbrev pub withRegisters : Process → Value → Value → Value → Value → Process
+withRegisters p a b c d = processOf (p .stage) (p .behaviour) (p .place) (p .trap) a b c d (p .links) (p .watches) (p .watchers) (p .reason)
+
+abbrev pub withTrap : Process → Bool → Process
+withTrap p f = processOf (p .stage) (p .behaviour) (p .place) f (p .r0) (p .r1) (p .r2) (p .r3) (p .links) (p .watches) (p .watchers) (p .reason)
+
+abbrev pub withSets : Process → Peers → Peers → Peers → Process
+withSets p l w x = processOf (p .stage) (p .behaviour) (p .place) (p .trap) (p .r0) (p .r1) (p .r2) (p .r3) l w x (p .reason)
 
 abbrev pub withLinks : Process → Peers → Process
 withLinks p l = withSets p l (p .watches) (p .watchers)
@@ -126,20 +78,7 @@ abbrev pub withWatchers : Process → Peers → Process
 withWatchers p l = withSets p (p .links) (p .watches) l
 
 abbrev pub withStage : Process → Stage → Value → Process
-withStage p s v = record {
-  stage = s;
-  behaviour = p .behaviour;
-  place = p .place;
-  trap = p .trap;
-  r0 = p .r0;
-  r1 = p .r1;
-  r2 = p .r2;
-  r3 = p .r3;
-  links = p .links;
-  watches = p .watches;
-  watchers = p .watchers;
-  reason = v;
-}
+withStage p s v = processOf s (p .behaviour) (p .place) (p .trap) (p .r0) (p .r1) (p .r2) (p .r3) (p .links) (p .watches) (p .watchers) v
 
 unfoldable pub register : Process → ℕ → Value
 register p r = cond (eqb r 0) (p .r0) (cond (eqb r 1) (p .r1) (cond (eqb r 2) (p .r2) (p .r3)))
