@@ -326,17 +326,17 @@ impl Process {
         Ok(())
     }
 
-    /// One that came along a link: lines 1, 3, 4 and 5; no process has a link to itself.
+    /// One that came along a link, which ends by it: lines 1, 3, 4 and 5; no process has a link to itself.
     fn exited_along_link(&mut self, from: u8, reason: Value) -> Result<(), Refusal> {
         if self.links & bit(from) == 0 {
             return Ok(());
         }
         if self.trap {
             self.join(Message::note(from, reason))?;
-            self.links &= !bit(from);
         } else if reason != Value::NORMAL {
             self.end(reason);
         }
+        self.links &= !bit(from);
         Ok(())
     }
 

@@ -211,8 +211,8 @@ table =
     -- P4 trap 1: exit(a1,0) ends with a2; exit(a1,1) from a link gives a note
     ∷ arrival (plain true linkTwo) 2 (Exit kill false) (closed intZero intZero true linkTwo killed) []
     ∷ arrival (plain true linkTwo) 2 (Exit kill true) (plain true unlinkedLinks) (Note (record { 0 = 2 }) kill ∷ [])
-    -- P5 trap 0: exit(a1,1) from a link ends with a1
-    ∷ arrival (plain false linkTwo) 2 (Exit kill true) (closed intZero intZero false linkTwo kill) []
+    -- P5 trap 0: exit(a1,1) from a link ends with a1, and the sender leaves the links
+    ∷ arrival (plain false linkTwo) 2 (Exit kill true) (closed intZero intZero false unlinkedLinks kill) []
     -- P6 exit(a9,1), no link, trap 1: dropped
     ∷ arrival (plain true unlinkedLinks) 2 (Exit (Atom 9) true) (plain true unlinkedLinks) []
     -- P7 i2147483647 plus i1: a4; plus i0 stands
@@ -234,6 +234,14 @@ table =
     ∷ playing (world (closed intZero intZero false unlinkedLinks normal) [] 1 1 []) (run 1 ∷ run 1 ∷ []) 1 22 (world over [] 1 1 [])
     -- closing with the links 2 and 3: exit(a9,1) is sent to 2, and 3 stays
     ∷ playing (world (closed intZero intZero false linkTwoThree (Atom 9)) [] 1 2 []) (run 1 ∷ []) 1 0 (world (closed intZero intZero false linkThree (Atom 9)) [] 1 2 (Exit (Atom 9) true ∷ []))
+    -- trap 0: exit(a0,1) from a link is dropped and the link is gone; by exit(a0,0) the link stays
+    ∷ arrival (plain false linkTwo) 2 (Exit normal true) (plain false unlinkedLinks) []
+    ∷ arrival (plain false linkTwo) 2 (Exit normal false) (plain false linkTwo) []
+    -- trap 0: exit(a9,1) from one of two links ends with the other only; exit(a9,0) from a link ends with the link
+    ∷ arrival (plain false linkTwoThree) 2 (Exit (Atom 9) true) (closed intZero intZero false linkThree (Atom 9)) []
+    ∷ arrival (plain false linkTwo) 2 (Exit (Atom 9) false) (closed intZero intZero false linkTwo (Atom 9)) []
+    -- ended by its only link, and run: gone
+    ∷ playing (world (plain false linkTwo) [] 2 1 (Exit (Atom 9) true ∷ [])) (arrive 1 2 ∷ run 1 ∷ []) 2 0 (world (gone (closed intZero intZero false unlinkedLinks (Atom 9))) [] 1 1 [])
     -- a monitor at a live process: its sender becomes a watcher
     ∷ arrival (plain false unlinkedLinks) 2 Monitor (withWatchers (plain false unlinkedLinks) linkTwo) []
     -- a down from a process that is watched joins, and the watch is over; from another it is dropped
@@ -293,5 +301,5 @@ no-steps n h = rw h
 pub ramp : All table
 unfolding All Holds table arrival running refusing plain rower closed over world holding fives sender spawner watcher monitorer flying unlinkedLinks linkTwo linkThree linkTwoThree sample started ramp-ops opOf play played step rule ready commit incoming decide numbered ownerBorn signalWaits pairHasRoom numberFree sound shaped viewSound view behavioursOf code setOf has bitsOf standing runningSound rowSound receives fits runs runsLive runsOp closes arrives exits downs operand instruction operandInRange inRange hasClauses targetsFree wellPlaced codeSound isNumber fitsInt sameValue messages signals changed joined left popped emptied register withRegister moved advanced trapped linksTo linked unlinked watchesOver watching unwatching watched unwatched withPeer withoutPeer lowestPeer ended gone kindsOf
 ramp =
-    let others : All (drop 16 table) = (refl, (refl, (refl, (refl, (refl, (refl, (refl, (refl, (refl, (refl, (refl, (refl, (refl, (refl, tt)))))))))))))) in
+    let others : All (drop 16 table) = (refl, (refl, (refl, (refl, (refl, (refl, (refl, (refl, (refl, (refl, (refl, (refl, (refl, (refl, (refl, (refl, (refl, (refl, (refl, tt))))))))))))))))))) in
     (no-steps, (sample-program, (refl, (refl, (refl, (refl, (refl, (refl, (refl, (refl, (refl, (refl, (refl, (refl, (refl, (refl, others))))))))))))))))

@@ -126,16 +126,6 @@ module _ (p q : Process) (k : ℕ) where
   pub says-full : (x : Message) → 16 ≤ k → refusing p mailboxFull ≡ says p k (λ st. joinsWith st q x)
   says-full x h = rw (length-replicate k (noMessage .message), le-ltb k 16 h)
 
--- a process that becomes q where b holds and message x has room, which q is then said of; else p
-module _ (p q : Process) (k : ℕ) (x : Message) where
-  pub note-leaves : (b : Bool) → (b && ltb k 16) ≡ true → says q k (λ st. joinsWith st q x) ≡ says p k (λ st. joinsWith st (cond b q p) x)
-  note-leaves true e = let h = ltb-true k 16 e in sym (says-joins q q k x h) ∙ says-joins p q k x h
-  note-leaves false e = absurd (false≢true e)
-
-  pub note-stays : (b : Bool) → (b && ltb k 16) ≡ false → says p k (λ st. joinsWith st p x) ≡ says p k (λ st. joinsWith st (cond b q p) x)
-  note-stays true e = let h = ltb-false k 16 e in sym (says-full p p k x h) ∙ says-full p q k x h
-  note-stays false e = refl
-
 pub comes-at : (i j : ProcessNumber) (p : Process) (k : ℕ) (x : Signal) {s : Stage} → p .stage ≡ s → says p k (λ st. arrivesIn s (i .0) (j .0) st x) ≡ arrived i j p k x
 unfolding arrived arrives
 comes-at i j p k x e = sym (ap (λ (s : Stage). says p k (λ st. arrivesIn s (i .0) (j .0) st x)) e)

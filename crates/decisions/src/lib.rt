@@ -10,7 +10,7 @@ ghost use Rattle.node.specs.Sets.{lowestPeer};
 ghost use Rattle.node.specs.Values.{pid, normal, kill, badarg, sameValue};
 ghost use Rattle.rules.specs.Effects.{becomes, ends};
 ghost use Rattle.rules.specs.Run.{setsRegister, jumpsIf, integerIn, setsSum, adds, compares, sendsTo, toOther, spawns, closesTo, closes, runsLive};
-ghost use Rattle.rules.specs.Arrive.{joinsWith, notes, exits, downs, takes, isMonitor, answers};
+ghost use Rattle.rules.specs.Arrive.{joinsWith, received, exits, downs, takes, isMonitor, answers};
 ghost use Rattle.rules.specs.Steps.{isUnborn};
 ghost use Rattle.decisions.specs.Answers.{refusing, becoming, searching, sendingTo, says, codeAt, namedBy};
 ghost use Rattle.decisions.specs.Answers.{ranOp, ran, arrived, sumOf, integersOf};
@@ -534,16 +534,16 @@ fn both(a: bool, b: bool) -> bool
     false
 }
 
-// Message x joins a mailbox of count messages.
-fn join(p: Process, count: u8, x: Message) -> Decision
-    ensures { λ e. ⌜ e ≡ says p count (λ st. joinsWith st p x) ⌝ }
+// Message x joins a mailbox of count messages, which makes p `next`; on 24 p stays.
+fn join(p: Process, next: Process, count: u8, x: Message) -> Decision
+    ensures { λ e. ⌜ e ≡ says p count (λ st. joinsWith st next x) ⌝ }
 {
     if 16 <= count {
         return Decision::refuses(p, MAILBOX_FULL);
     }
     Decision {
         refusal: 0,
-        process: p,
+        process: next,
         receives: false,
         joins: true,
         message: x,
@@ -556,14 +556,14 @@ fn join(p: Process, count: u8, x: Message) -> Decision
     }
 }
 
-// A note of j's end joins; if it came along the link, the link is over. On 24 the link stays.
-fn note(j: ProcessNumber, p: Process, count: u8, v: Value, b: bool) -> Decision
-    ensures { λ e. ⌜ e ≡ says p count (λ st. notes (j .0) st v b) ⌝ }
+// What is left of p once an exit signal from j is received: where it came along the link (b), the link is over.
+fn received(j: ProcessNumber, p: Process, b: bool) -> Process
+    ensures { λ r. ⌜ r ≡ received (j .0) p b ⌝ }
 {
-    if both(b, count < 16) {
-        return join(p.unlinked(j), count, Message::Note(j, v));
+    if b {
+        return p.unlinked(j);
     }
-    join(p, count, Message::Note(j, v))
+    p
 }
 
 // Line 2: the reason is kill, and the signal came along no link.
@@ -594,14 +594,15 @@ fn exit(i: ProcessNumber, j: ProcessNumber, p: Process, count: u8, v: Value, b: 
     if kills(v, b) {
         return Decision::becomes(p.ended(Value::KILLED));
     }
+    let left = received(j, p, b);
     let trap = p.trap;
     if trap {
-        return note(j, p, count, v, b);
+        return join(p, left, count, Message::Note(j, v));
     }
     if drops_normal(i, j, v) {
-        return Decision::becomes(p);
+        return Decision::becomes(left);
     }
-    Decision::becomes(p.ended(v))
+    Decision::becomes(left.ended(v))
 }
 
 // What a live process does with a signal from j.
@@ -609,7 +610,7 @@ fn take(i: ProcessNumber, j: ProcessNumber, p: Process, count: u8, x: Signal) ->
     ensures { λ e. ⌜ e ≡ says p count (λ st. takes (i .0) (j .0) st x) ⌝ }
 {
     match x {
-        Signal::Msg(v) => join(p, count, Message::Plain(v)),
+        Signal::Msg(v) => join(p, p, count, Message::Plain(v)),
         Signal::Exit(v, b) => exit(i, j, p, count, v, b),
         Signal::Link => Decision::becomes(p.linked(j)),
         Signal::Unlink => Decision::becomes(p.unlinked(j)),
@@ -619,17 +620,14 @@ fn take(i: ProcessNumber, j: ProcessNumber, p: Process, count: u8, x: Signal) ->
     }
 }
 
-// A down from j: it joins, and the watch is over. Where j is not watched it is dropped; on 24 the watch stays.
+// A down from j: it joins, and the watch is over. Where j is not watched it is dropped.
 fn down(j: ProcessNumber, p: Process, count: u8, v: Value) -> Decision
     ensures { λ e. ⌜ e ≡ says p count (λ st. downs (j .0) st v) ⌝ }
 {
     if !p.watches_over(j) {
         return Decision::becomes(p);
     }
-    if 16 <= count {
-        return Decision::refuses(p, MAILBOX_FULL);
-    }
-    join(p.unwatching(j), count, Message::Down(j, v))
+    join(p, p.unwatching(j), count, Message::Down(j, v))
 }
 
 // What an ended process does with a signal from j: a monitor is told that there is no such process, every other is dropped.

@@ -16,7 +16,7 @@ use Rattle.node.specs.declared.Value.{Value}
 use Rattle.node.specs.Processes.{linked, unlinked, watched, unwatched, unwatching, ended}
 use Rattle.node.specs.Values.{killed, isNumber, valueSound, messageSound}
 use Rattle.rules.specs.Answers.{Answer}
-use Rattle.rules.specs.Arrive.{arrives, takes, exits, joinsWith, notes, downs}
+use Rattle.rules.specs.Arrive.{arrives, takes, exits, joinsWith, received, notes, downs}
 use Rattle.rules.specs.Behaviours.{Instruction}
 use Rattle.rules.specs.Effects.{State, Effect, becomes, ends}
 use Rattle.rules.specs.Nodes.{standing, standingSound, signalSound, sound}
@@ -63,9 +63,13 @@ module _ (i j : ℕ) (st : State) where
   unlinked-heard : (codes : List (List Instruction)) (y : Signal) → Hears codes y → Alive codes i (unlinked (st .process) j) (st .mail)
   unlinked-heard codes y g = unlinked-alive codes i (st .process) (st .mail) (g .alive) j
 
+  received-heard : (codes : List (List Instruction)) (v : Value) (b : Bool) → Hears codes (Exit v b) → Alive codes i (received j (st .process) b) (st .mail)
+  received-heard codes v true g = unlinked-heard codes (Exit v true) g
+  received-heard codes v false g = g .alive
+
   notes-heard : (v : Value) (b : Bool) → Heard (Exit v b) (notes j st v b)
-  notes-heard v true = joins-heard (Exit v true) (unlinked (st .process) j) (Note (record { 0 = j }) v) (λ codes g. unlinked-heard codes (Exit v true) g) (λ codes g. both (g .from) (g .sound))
-  notes-heard v false = joins-heard (Exit v false) (st .process) (Note (record { 0 = j }) v) (λ codes g. g .alive) (λ codes g. both (g .from) (g .sound))
+  notes-heard v b =
+      joins-heard (Exit v b) (received j (st .process) b) (Note (record { 0 = j }) v) (λ codes g. received-heard codes v b g) (λ codes g. both (g .from) (g .sound))
 
   exits-heard : (v : Value) (b : Bool) → Heard (Exit v b) (exits i j st v b)
   exits-heard v b =
@@ -73,7 +77,8 @@ module _ (i j : ℕ) (st : State) where
       (becomes-heard (Exit v b) (st .process) (λ codes g. g .alive))
       (ends-heard (Exit v b) killed (λ codes g. refl))
       (notes-heard v b)
-      (ends-heard (Exit v b) v (λ codes g. g .sound))
+      (becomes-heard (Exit v b) (received j (st .process) b) (λ codes g. received-heard codes v b g))
+      (record { told = tt; good = λ codes g. ends-good codes i (record { process = received j (st .process) b; mail = st .mail }) v (g .sound) (received-heard codes v b g .apart) })
 
   downs-heard : (v : Value) → Heard (Down v) (downs j st v)
   downs-heard v =

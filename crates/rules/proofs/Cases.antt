@@ -23,12 +23,12 @@ use Rattle.node.specs.declared.Stage.the-variants.{Unborn, Live, Closing, Gone}
 use Rattle.node.specs.declared.Value.{Value}
 use Rattle.node.specs.declared.Value.the-variants.{Int, Atom, Pid}
 use Rattle.node.specs.Nodes.{noOp}
-use Rattle.node.specs.Processes.{moved, advanced, linksTo, unlinked, watchesOver, unwatching, unwatched, gone}
+use Rattle.node.specs.Processes.{moved, advanced, ended, linksTo, unlinked, watchesOver, unwatching, unwatched, gone}
 use Rattle.node.specs.Sets.{lowestPeer}
 use Rattle.node.specs.Values.{normal, kill, killed, badarg, badarith, noproc, pid, isNumber, fitsInt, sameValue}
 use Rattle.node.proofs.Sets.{lowest-number}
 use Rattle.rules.specs.Answers.{Answer, refused, done, need, mailboxFull, noFit, ownerUnborn, ownerGone}
-use Rattle.rules.specs.Arrive.{joinsWith, notes, exits, downs, takes, isMonitor, answers, arrivesIn, arrives}
+use Rattle.rules.specs.Arrive.{joinsWith, received, notes, exits, downs, takes, isMonitor, answers, arrivesIn, arrives}
 use Rattle.rules.specs.Effects.{State, Effect, joining, becomes, ends, sends}
 use Rattle.rules.specs.Receive.{Fit, search, receivesFit, receives}
 use Rattle.rules.specs.Run.{setsRegister, jumpsIf, integerIn, onIntegers, setsSum, adds, compares, processIn, toProcess, sendsTo, toOther, runsOp, closesTo, closes, runsLive, runsIn, runs}
@@ -135,17 +135,18 @@ module _ (st : State) (P : Answer Effect → Type 0) where
       go true e = h e
       go false e = g
 
-  -- the five lines: dropped (1 and 4), killed (2), noted (3), ended (5)
-  pub exits-any : (i j : ℕ) (v : Value) (b : Bool) → P (becomes st (st .process)) → P (ends st killed) → P (notes j st v b) → P (ends st v) → P (exits i j st v b)
+  -- the five lines: dropped (1), killed (2), noted (3), dropped once received (4), ended (5)
+  pub exits-any : (i j : ℕ) (v : Value) (b : Bool) → P (becomes st (st .process)) → P (ends st killed) → P (notes j st v b) →
+      P (becomes st (received j (st .process) b)) → P (becomes st (ended (received j (st .process) b) v)) → P (exits i j st v b)
   unfolding exits
-  exits-any i j v b same kills noted ended = go (b && not (linksTo (st .process) j)) (not b && sameValue v kill) (st .process .trap) (sameValue v normal && not (eqb j i))
+  exits-any i j v b same kills noted dropped over = go (b && not (linksTo (st .process) j)) (not b && sameValue v kill) (st .process .trap) (sameValue v normal && not (eqb j i))
     where
-      go : (x y z w : Bool) → P (cond x (becomes st (st .process)) (cond y (ends st killed) (cond z (notes j st v b) (cond w (becomes st (st .process)) (ends st v)))))
+      go : (x y z w : Bool) → P (cond x (becomes st (st .process)) (cond y (ends st killed) (cond z (notes j st v b) (cond w (becomes st (received j (st .process) b)) (becomes st (ended (received j (st .process) b) v))))))
       go true y z w = same
       go false true z w = kills
       go false false true w = noted
-      go false false false true = same
-      go false false false false = ended
+      go false false false true = dropped
+      go false false false false = over
 
   -- dropped, or the message joins and the watch is over
   pub downs-any : (j : ℕ) (v : Value) → P (becomes st (st .process)) → P (joinsWith st (unwatching (st .process) j) (DownMessage (record { 0 = j }) v)) → P (downs j st v)

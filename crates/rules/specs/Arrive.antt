@@ -1,5 +1,6 @@
 -- Arriving (document 01, "Arrive").
 --   joins st x          message x joins the mailbox
+--   received j p b      what is left of process p once an exit signal from j is received, which was sent along a link where b is set
 --   exits i j st v b    what live process i does on exit(v, b) from j: the first line that applies
 --   downs j st v        what a live process does on down(v) from j
 --   takes i j st x      what live process i does with signal x from j
@@ -18,7 +19,7 @@ use Rattle.node.specs.declared.Signal.the-variants.{Msg, Exit, Link, Unlink, Mo
 use Rattle.node.specs.declared.Stage.{Stage}
 use Rattle.node.specs.declared.Stage.the-variants.{Unborn, Live, Closing, Gone}
 use Rattle.node.specs.declared.Value.{Value}
-use Rattle.node.specs.Processes.{linksTo, linked, unlinked, watchesOver, unwatching, watched, unwatched}
+use Rattle.node.specs.Processes.{ended, linksTo, linked, unlinked, watchesOver, unwatching, watched, unwatched}
 use Rattle.node.specs.Values.{normal, kill, killed, noproc, sameValue}
 use Rattle.rules.specs.Answers.{Answer, refused, done, need, ownerUnborn, mailboxFull}
 use Rattle.rules.specs.Effects.{State, Effect, joining, becomes, ends, sends}
@@ -30,9 +31,13 @@ joinsWith st p x = need (ltb (length (st .mail)) 16) mailboxFull (done (record {
 abbrev pub joins : State → Message → Answer Effect
 joins st x = joinsWith st (st .process) x
 
+-- "a link is gone once its exit signal has been received"
+abbrev pub received : ℕ → Process → Bool → Process
+received j p b = cond b (unlinked p j) p
+
 -- "note (j,v) joins the mailbox; if b=1, j leaves the links"
 abbrev pub notes : ℕ → State → Value → Bool → Answer Effect
-notes j st v b = joinsWith st (cond b (unlinked (st .process) j) (st .process)) (Note (record { 0 = j }) v)
+notes j st v b = joinsWith st (received j (st .process) b) (Note (record { 0 = j }) v)
 
 unfoldable pub exits : ℕ → ℕ → State → Value → Bool → Answer Effect
 exits i j st v b =
@@ -40,8 +45,8 @@ exits i j st v b =
     cond (b && not (linksTo p j)) (becomes st p)  -- 1  linked, and j is no link: dropped
     (cond (not b && sameValue v kill) (ends st killed)  -- 2  kill: ends with killed, trap or no trap
     (cond (p .trap) (notes j st v b)  -- 3  trapped: a note joins the mailbox
-    (cond (sameValue v normal && not (eqb j i)) (becomes st p)  -- 4  normal from another: dropped
-    (ends st v))))  -- 5
+    (cond (sameValue v normal && not (eqb j i)) (becomes st (received j p b))  -- 4  normal from another: dropped; "the sender now leaves the links"
+    (becomes st (ended (received j p b) v)))))  -- 5  ends with v; "takes that sender out before closing"
 
 -- "Down joins the mailbox and ends the watch only if the watch still stands; else it is dropped"
 unfoldable pub downs : ℕ → State → Value → Answer Effect

@@ -29,7 +29,7 @@ pub const SIGNALS: [&str; 7] = [
 ];
 
 /// Finer events, in the order of the table. A count of an event that is not here is a mistake.
-pub const DETAILS: [&str; 115] = [
+pub const DETAILS: [&str; 117] = [
     "run at place N",
     "closing told a link",
     "closing told a watcher",
@@ -105,9 +105,11 @@ pub const DETAILS: [&str; 115] = [
     "line 3, linked 1",
     "line 3, linked 1, a1",
     "line 4, linked 0",
+    "line 4, linked 0, from a link",
     "line 4, linked 1",
     "line 4 at a full mailbox",
     "line 5, linked 0",
+    "line 5, linked 0, from a link",
     "line 5, linked 1",
     "line 5, linked 1, a1",
     "line 5, a0 from itself",
@@ -350,13 +352,22 @@ impl Coverage {
                 line,
                 reason,
                 linked,
+                from_link,
                 trap,
             } => {
                 self.exit_lines[usize::from(line) - 1] += 1;
+                let full = match node.stage(owner) {
+                    Stage::Live(live) => live.mailbox.len() == MAILBOX_LIMIT,
+                    _ => false,
+                };
+                self.detail_if(full && line == 1, "line 1 at a full mailbox");
+                self.detail_if(full && line == 4, "line 4 at a full mailbox");
                 match line {
+                    1 => {}
                     2 if trap => self.detail("line 2, trap 1"),
                     2 => self.detail("line 2, trap 0"),
-                    _ => self.count_exit_line(node, step, line, reason, linked),
+                    _ if linked => self.count_linked_exit(line, reason),
+                    _ => self.count_exit(line, from_link, reason),
                 }
             }
         }
@@ -524,45 +535,38 @@ impl Coverage {
         }
     }
 
-    /// The finer events of lines 1, 3, 4 and 5.
-    fn count_exit_line(&mut self, node: &Node, step: Step, line: u8, reason: Value, linked: bool) {
-        let Step::Arrive { to, from } = step else {
-            return;
-        };
-        let (full, still_linked) = match node.stage(to) {
-            Stage::Live(live) => (
-                live.mailbox.len() == MAILBOX_LIMIT,
-                live.links.contains(&from),
-            ),
-            _ => (false, false),
-        };
+    /// The finer events of lines 3, 4 and 5 with b = 1.
+    fn count_linked_exit(&mut self, line: u8, reason: Value) {
         let kill = reason == Value::Atom(1);
-        match (line, linked) {
-            (1, _) => self.detail_if(full, "line 1 at a full mailbox"),
-            (3, false) => {
-                self.detail("line 3, linked 0");
-                self.detail_if(still_linked, "line 3, linked 0, from a link");
-            }
-            (3, true) => {
+        match line {
+            3 => {
                 self.detail("line 3, linked 1");
                 self.detail_if(kill, "line 3, linked 1, a1");
             }
-            (4, _) => {
-                self.detail(if linked {
-                    "line 4, linked 1"
-                } else {
-                    "line 4, linked 0"
-                });
-                self.detail_if(full, "line 4 at a full mailbox");
-            }
-            (_, false) => {
-                self.detail("line 5, linked 0");
-                let normal = reason == Value::Atom(0);
-                self.detail_if(normal && from == to, "line 5, a0 from itself");
-            }
-            (_, true) => {
+            4 => self.detail("line 4, linked 1"),
+            _ => {
                 self.detail("line 5, linked 1");
                 self.detail_if(kill, "line 5, linked 1, a1");
+            }
+        }
+    }
+
+    /// The same with b = 0.
+    fn count_exit(&mut self, line: u8, from_link: bool, reason: Value) {
+        match line {
+            3 => {
+                self.detail("line 3, linked 0");
+                self.detail_if(from_link, "line 3, linked 0, from a link");
+            }
+            4 => {
+                self.detail("line 4, linked 0");
+                self.detail_if(from_link, "line 4, linked 0, from a link");
+            }
+            _ => {
+                self.detail("line 5, linked 0");
+                self.detail_if(from_link, "line 5, linked 0, from a link");
+                // From another process a0 is dropped by line 4.
+                self.detail_if(reason == Value::Atom(0), "line 5, a0 from itself");
             }
         }
     }

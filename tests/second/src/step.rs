@@ -67,11 +67,12 @@ pub enum Effect {
     /// A down signal reached a live process that does not watch the sender.
     DroppedUnwatched,
     /// An exit signal reached a live process, whose trap flag was this, and this line, 1 to 5,
-    /// applied.
+    /// applied. `linked` is the signal's b; `from_link` tells whether the sender was a link.
     ExitLine {
         line: u8,
         reason: Value,
         linked: bool,
+        from_link: bool,
         trap: bool,
     },
 }
@@ -500,6 +501,13 @@ fn join_mailbox(node: &mut Node, process: u8, message: Message) -> Result<(), u8
     Ok(())
 }
 
+/// "a link is gone once its exit signal has been received": `linked` is the signal's b.
+fn drop_link(node: &mut Node, to: u8, from: u8, linked: bool) {
+    if linked {
+        node.live_mut(to).links.remove(&from);
+    }
+}
+
 /// The five lines for exit(v,b) from j at a live i.
 fn arrive_exit(
     node: &mut Node,
@@ -510,7 +518,8 @@ fn arrive_exit(
 ) -> Result<Effect, u8> {
     let live = node.live(to);
     let trap = live.trap;
-    let line = if linked && !live.links.contains(&from) {
+    let from_link = live.links.contains(&from);
+    let line = if linked && !from_link {
         // "1. b=1, j not linked: dropped."
         1
     } else if !linked && reason == KILL {
@@ -524,15 +533,17 @@ fn arrive_exit(
             reason,
         };
         join_mailbox(node, to, note)?;
-        if linked {
-            node.live_mut(to).links.remove(&from);
-        }
+        drop_link(node, to, from, linked);
         3
     } else if reason == NORMAL && from != to {
-        // "4. v=a0, j is not i: dropped, i unchanged."
+        // "4. v=a0, j is not i: dropped"; "Where the exit rules drop a linked a0 because trap is
+        // 0, the sender now leaves the links."
+        drop_link(node, to, from, linked);
         4
     } else {
-        // "5. i ends with v."
+        // "5. i ends with v."; "A process that a linked exit ends also takes that sender out
+        // before closing."
+        drop_link(node, to, from, linked);
         end(node, to, reason);
         5
     };
@@ -540,6 +551,7 @@ fn arrive_exit(
         line,
         reason,
         linked,
+        from_link,
         trap,
     })
 }

@@ -86,18 +86,15 @@ fn p4_linked_kill_gives_a_trapping_process_a_note() {
 #[test]
 fn p5_linked_kill_ends_with_kill() {
     let out = run(&linked_stop("a1", "trap,0"), LINKED_STOP_STEPS);
-    assert_eq!(
-        process(&out, 2),
-        "stage=closing reason=a1 links=1 watchers="
-    );
+    assert_eq!(process(&out, 2), "stage=closing reason=a1 links= watchers=");
 }
 
 #[test]
-fn linked_normal_exit_is_dropped_and_the_link_stays() {
+fn linked_normal_exit_is_dropped_and_the_link_is_over() {
     let out = run(&linked_stop("a0", "trap,0"), LINKED_STOP_STEPS);
     assert_eq!(
         process(&out, 2),
-        "stage=live behaviour=2 place=1 r0=i0 r1=i0 r2=i0 r3=i0 trap=0 links=1 watches= watchers= mail=0"
+        "stage=live behaviour=2 place=1 r0=i0 r1=i0 r2=i0 r3=i0 trap=0 links= watches= watchers= mail=0"
     );
 }
 
