@@ -141,7 +141,9 @@ module _ (st : State) (P : Answer Effect → Type 0) where
   unfolding exits
   exits-any i j v b same kills noted dropped over = go (b && not (linksTo (st .process) j)) (not b && sameValue v kill) (st .process .trap) (sameValue v normal && not (eqb j i))
     where
-      go : (x y z w : Bool) → P (cond x (becomes st (st .process)) (cond y (ends st killed) (cond z (notes j st v b) (cond w (becomes st (received j (st .process) b)) (becomes st (ended (received j (st .process) b) v))))))
+      go : (x y z w : Bool) →
+          P (cond x (becomes st (st .process)) (cond y (ends st killed) (cond z (notes j st v b)
+          (cond w (becomes st (received j (st .process) b)) (becomes st (ended (received j (st .process) b) v))))))
       go true y z w = same
       go false true z w = kills
       go false false true w = noted

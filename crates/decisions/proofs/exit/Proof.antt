@@ -111,7 +111,8 @@ returns-5 c =
     let its-links-to = c .before .before .before .before .before .before .before .before .before .before .links-to in
     let its-args = c .before .before .before .before .before .before .before .before .before .before .before .args in
     c .becomes4 .ensures ∙ says-becomes (its-args .p) (its-ended2 .result) (its-args .count)
-    ∙ rw (its-ended2 .ensures, ← its-received .ensures, ← its-links-to .ensures, ← its-both .ensures, its-if1 .left, ← its-kills .ensures, its-if2 .left, its-if3 .left, ← its-drops-normal .ensures, its-if4 .left)
+    ∙ rw (its-ended2 .ensures, ← its-received .ensures, ← its-links-to .ensures, ← its-both .ensures, its-if1 .left)
+    (rw (← its-kills .ensures, its-if2 .left, its-if3 .left, ← its-drops-normal .ensures, its-if4 .left))
 
 pub exit-spec : {M : Type 1} → statement M
 exit-spec =
