@@ -164,6 +164,7 @@ fn at_most(k: usize, limit: usize) -> usize
     limit
 }
 
+// The same for a count that a byte holds.
 fn up_to(k: u8, limit: usize) -> usize
     ensures { λ r. ⌜ r ≡ min k limit ⌝ }
 {

@@ -50,13 +50,6 @@ module _ {A : Type 0} where
   firsts-behind d (suc (suc n)) [] = refl
   firsts-behind d (suc n) (x ∷ l) = ap (λ (r : List A). x ∷ r) (firsts-behind d n l)
 
-  -- element k out of those that are there
-  pub firsts-leave : (d : A) (n k : ℕ) (l : List A) → k ≤ n → k < length l → firsts d n (leave d k l) ≡ take k (firsts d (suc n) l) ++ drop (suc k) (firsts d (suc n) l)
-  firsts-leave d n k [] h g = absurd (not-suc-le-zero g)
-  firsts-leave d n zero (x ∷ l) h g = firsts-behind d n l
-  firsts-leave d zero (suc k) (x ∷ l) h g = absurd (not-suc-le-zero h)
-  firsts-leave d (suc n) (suc k) (x ∷ l) h g = ap (λ (r : List A). x ∷ r) (firsts-leave d n k l (le-of-suc-le-suc h) (le-of-suc-le-suc g))
-
   -- what is read past the elements
   pub past-blank : {B : Type 0} (f : A → B) (d : A) (l : List A) (k : ℕ) → length l ≤ k → f d ≡ f (getD l k d)
   past-blank f d l k h = sym (ap f (List·getD-eq-default l d {n = k} h))
@@ -79,27 +72,6 @@ module _ {A : Type 0} where
   map-drop f zero l = refl
   map-drop f (suc n) [] = refl
   map-drop f (suc n) (x ∷ l) = map-drop f n l
-
-  -- an element leaves an array: each behind it moves up by one, and the default is stored behind
-  pub leave-more : (d : A) (k : ℕ) (l : List A) → k + 1 < length l → leave d (k + 1) (set l k (getD l (k + 1) d)) ≡ leave d k l
-  leave-more d k l h = rw add-one (go k l (rw add-one at h))
-    where
-      go : (k : ℕ) (l : List A) → suc k < length l → leave d (suc k) (set l k (getD l (suc k) d)) ≡ leave d k l
-      go k [] h = absurd (not-suc-le-zero h)
-      go zero (x ∷ []) h = absurd (not-suc-le-zero (le-of-suc-le-suc h))
-      go zero (x ∷ y ∷ l) h = refl
-      go (suc k) (x ∷ l) h = ap (λ (r : List A). x ∷ r) (go k l (le-of-suc-le-suc h))
-
-  pub leave-last : (d : A) (k : ℕ) (l : List A) → k + 1 ≡ length l → set l k d ≡ leave d k l
-  leave-last d k [] h = refl
-  leave-last d zero (x ∷ []) h = refl
-  leave-last d zero (x ∷ y ∷ l) h = absurd (omega arith)
-  leave-last d (suc k) (x ∷ l) h = ap (λ (r : List A). x ∷ r) (leave-last d k l (omega arith))
-
-  pub leave-out : (d : A) (k : ℕ) (l : List A) → length l ≤ k → leave d k l ≡ l
-  leave-out d k [] h = refl
-  leave-out d zero (x ∷ l) h = absurd (omega arith)
-  leave-out d (suc k) (x ∷ l) h = ap (λ (r : List A). x ∷ r) (leave-out d k l (le-of-suc-le-suc h))
 
   -- within a list, what is read past its end does not matter
   pub getD-in : (l : List A) (i : ℕ) (d e : A) → i < length l → getD l i d ≡ getD l i e

@@ -1,16 +1,15 @@
 -- Pairs with no signal in flight, passed over several at a time. Assumes nothing.
 --   quiet-none quiet-next quiet-join   no pairs, one more, and some more
 --   quiet-eight                        eight pairs, by the numbers that four counts at a time stand for
---   never                              false is not true
 use mathlib.Core.Bool.{Bool, true, false}
 use mathlib.Core.List.{List}
 use mathlib.Core.Logic.{⊎-elim}
-use mathlib.Core.Path.{_≡_, refl, sym, subst}
+use mathlib.Core.Path.{_≡_, refl}
 use Prim.Native.Nat.{ℕ, _+_, _*_, _≤_, _<_}
 use native.Mathlib.Nat.{eq-or-lt-of-le}
 use native.Mathlib.Omega.{arith}
 use borrow.Author.Tests.{ltb-true, ltb-false}
-use lib.Dec.{T, ltb}
+use lib.Dec.{ltb}
 use lib.ListN.{getD}
 use Rattle.soundness.specs.Parts.{Quiet}
 
@@ -37,6 +36,3 @@ module _ (l : List ℕ) (k : ℕ) where
       let four = quiet-next (k + 4) (quiet-next (k + 3) two (omega arith) (omega arith)) (omega arith) (omega arith) in
       let six = quiet-next (k + 6) (quiet-next (k + 5) four (omega arith) (omega arith)) (omega arith) (omega arith) in
       quiet-next (k + 8) (quiet-next (k + 7) six (omega arith) (omega arith)) (omega arith) (omega arith)
-
-pub never : {A : Type 0} → false ≡ true → A
-never e = absurd (subst T (sym e) tt)

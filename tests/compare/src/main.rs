@@ -215,7 +215,8 @@ fn main() {
     fs::remove_dir_all(&folder).unwrap();
     print!("{coverage}");
     println!(
-        "seed {seed}: the library agrees on {library_cases} cases, the program on {program_cases} cases and {files} pairs of files, both on {FULL_CASES} nearly full nodes (at most {longest} bytes)"
+        "seed {seed}: the library agrees on {library_cases} cases, the program on {program_cases} cases and {files} pairs of files, \
+         both on {FULL_CASES} nearly full nodes (at most {longest} bytes)"
     );
     let missing = coverage.rarer_than(1);
     if !missing.is_empty() {

@@ -1,9 +1,10 @@
 -- `quiet` compares four counts at a time with 0. Assumes nothing.
+use mathlib.Core.Bool.{false≢true}
 use mathlib.Core.Path.{sym, _∙_}
 use native.Mathlib.Omega.{arith}
 use borrow.Author.Needs.{needs}
 use borrow.Author.Tests.{eqb-true}
-use Rattle.soundness.proofs.Skips.{never, quiet-eight}
+use Rattle.soundness.proofs.Skips.{quiet-eight}
 use Rattle.soundness.proofs.quiet.Statement.{statement}
 use Rattle.soundness.proofs.quiet.Tie as tie
 
@@ -32,7 +33,7 @@ four-requires : tie.Need-four-requires
 four-requires c κs = search needs
 
 returns : tie.Need-returns
-returns c = λ e. never e
+returns c = λ e. absurd (false≢true e)
 
 add-four-4 : tie.Need-add-four-4
 add-four-4 c = search needs
