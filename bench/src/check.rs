@@ -68,6 +68,7 @@ pub fn stuck(case: &Case) {
     let refused = |step| second::step::take(&mut node.clone(), step).is_err();
     for to in 1..=16 {
         assert!(refused(second::step::Step::Run(to)), "a run is accepted");
+        assert!(refused(second::step::Step::Timeout(to)), "a timeout is accepted");
         assert!((1..=16).all(|from| refused(second::step::Step::Arrive { to, from })), "an arrival is accepted");
     }
     assert_eq!(proved::suggest(case, 1), 1, "a step is suggested");
@@ -85,43 +86,74 @@ pub fn random() {
     damages();
 }
 
+/// Behaviour 8 waits at its end, with an after, and the processes that do it stand there.
+fn wait(node: &mut Node) {
+    node.behaviours[7].ops[28..31].copy_from_slice(&[Op::Recv(1), Op::Clause(Register::R0, Register::R0, 0), Op::After(0)]);
+    for i in [7, 15] {
+        node.processes[i].place = 28;
+    }
+}
+
+/// The same with another op at a place.
+fn wait_with(node: &mut Node, place: usize, op: Op) {
+    wait(node);
+    node.behaviours[7].ops[place] = op;
+}
+
+/// What makes the nearly full node one that is not sound.
+const DAMAGES: [fn(&mut Node); 25] = [
+    |node| node.behaviour_count = 9,
+    |node| node.behaviours[7].count = 33,
+    |node| node.behaviours[7].ops[31] = Op::Jump(33),
+    |node| node.behaviours[7].ops[31] = Op::Clause(Register::R0, Register::R0, 0),
+    |node| node.behaviours[7].ops[31] = Op::Spawn(Register::R0, 1, 17),
+    |node| node.behaviours[7].ops[31] = Op::After(0),
+    |node| wait_with(node, 31, Op::After(0)),
+    |node| wait_with(node, 29, Op::After(0)),
+    |node| wait_with(node, 30, Op::After(30)),
+    |node| wait_with(node, 30, Op::After(33)),
+    |node| wait_with(node, 31, Op::Jump(30)),
+    |node| {
+        wait(node);
+        node.processes[15].place = 30;
+    },
+    |node| node.processes[15].links = 1 << 15,
+    |node| node.processes[15].watches = 1 << 15,
+    |node| node.processes[15].watchers = 1 << 15,
+    |node| (node.processes[15].stage, node.processes[15].watchers) = (Stage::Closing, 1 << 15),
+    |node| node.processes[15].place = 33,
+    |node| node.processes[15].mail[15] = Message::note(17, Value::NORMAL),
+    |node| node.processes[15].mail[15] = Message::down(17, Value::NORMAL),
+    |node| node.processes[15].mail[15] = Message::down(1, Value::pid(17)),
+    |node| node.flight[15].signals[14][3] = Signal::message(Value::pid(17)),
+    |node| node.flight[15].signals[14][3] = Signal::down(Value::pid(17)),
+    |node| node.flight[15].signals[15][3] = Signal::MONITOR,
+    |node| node.flight[15].signals[15][3] = Signal::DEMONITOR,
+    |node| node.flight[15].counts[14] = 5,
+];
+
+/// What leaves it sound.
+const HARMLESS: [fn(&mut Node); 7] = [
+    |node| node.flight[15].signals[15][3] = Signal::down(Value::NORMAL),
+    |node| node.flight[15].signals[14][3] = Signal::MONITOR,
+    |node| (node.processes[15].stage, node.processes[15].watches) = (Stage::Closing, 1 << 15),
+    |node| (node.processes[15].stage, node.processes[15].watchers) = (Stage::Gone, 1 << 15),
+    wait,
+    |node| wait_with(node, 30, Op::After(28)),
+    |node| wait_with(node, 30, Op::After(32)),
+];
+
 /// The tuned test of soundness sees a damage of each kind, and none in what a stage does not hold; the second interpreter has no such test.
 fn damages() {
     let node = Loaded::new(&inputs::full()).reached();
-    let damages: [fn(&mut Node); 18] = [
-        |node| node.behaviour_count = 9,
-        |node| node.behaviours[7].count = 33,
-        |node| node.behaviours[7].ops[31] = Op::Jump(33),
-        |node| node.behaviours[7].ops[31] = Op::Clause(Register::R0, Register::R0, 0),
-        |node| node.behaviours[7].ops[31] = Op::Spawn(Register::R0, 1, 17),
-        |node| node.processes[15].links = 1 << 15,
-        |node| node.processes[15].watches = 1 << 15,
-        |node| node.processes[15].watchers = 1 << 15,
-        |node| (node.processes[15].stage, node.processes[15].watchers) = (Stage::Closing, 1 << 15),
-        |node| node.processes[15].place = 33,
-        |node| node.processes[15].mail[15] = Message::note(17, Value::NORMAL),
-        |node| node.processes[15].mail[15] = Message::down(17, Value::NORMAL),
-        |node| node.processes[15].mail[15] = Message::down(1, Value::pid(17)),
-        |node| node.flight[15].signals[14][3] = Signal::message(Value::pid(17)),
-        |node| node.flight[15].signals[14][3] = Signal::down(Value::pid(17)),
-        |node| node.flight[15].signals[15][3] = Signal::MONITOR,
-        |node| node.flight[15].signals[15][3] = Signal::DEMONITOR,
-        |node| node.flight[15].counts[14] = 5,
-    ];
     assert!(node.is_sound() && node.processes[15].stage == Stage::Live, "the node is sound");
-    for (k, damage) in damages.iter().enumerate() {
+    for (k, damage) in DAMAGES.iter().enumerate() {
         let mut damaged = node.clone();
         damage(&mut damaged);
         assert!(!damaged.is_sound(), "damage {k} is not seen");
         assert_eq!(damaged.play(&[Step::Run(1)]), (0, 31), "a damaged node is not played on");
     }
-    let harmless: [fn(&mut Node); 4] = [
-        |node| node.flight[15].signals[15][3] = Signal::down(Value::NORMAL),
-        |node| node.flight[15].signals[14][3] = Signal::MONITOR,
-        |node| (node.processes[15].stage, node.processes[15].watches) = (Stage::Closing, 1 << 15),
-        |node| (node.processes[15].stage, node.processes[15].watchers) = (Stage::Gone, 1 << 15),
-    ];
-    for (k, change) in harmless.iter().enumerate() {
+    for (k, change) in HARMLESS.iter().enumerate() {
         let mut changed = node.clone();
         change(&mut changed);
         assert!(changed.is_sound(), "change {k} is no damage");

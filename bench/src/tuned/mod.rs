@@ -1,4 +1,4 @@
-//! Document 01 with M-100 in plain Rust that is written for speed: the yardstick of the proved library. One node is changed in place and
+//! Document 01 with M-100 to M-102 in plain Rust that is written for speed: the yardstick of the proved library. One node is changed in place and
 //! nothing is allocated; each call looks at the same refusals in the same order as the proved one. The search of a recv is document 01's:
 //! messages in mailbox order and, for each, clauses in their order.
 
@@ -54,6 +54,7 @@ pub enum Op {
     Stop(Register),
     Monitor(Register),
     Demonitor(Register),
+    After(u8),
     /// What stands at place N and behind it, so that a place needs no test against N.
     End,
 }
@@ -110,11 +111,14 @@ pub struct Node {
     pub flight: [Row; PROCESSES],
 }
 
-/// Places of a behaviour as sets, bit k for place k: those of clauses, those that recvs want to be clauses, and those that ops aim at.
+/// Places of a behaviour as sets, bit k for place k: those of clauses, those that recvs want to be clauses, those of afters, those directly
+/// behind what a recv wants, and those that ops aim at.
 #[derive(Default)]
 pub struct Places {
     pub clauses: u64,
     pub wanted: u64,
+    pub afters: u64,
+    pub behind: u64,
     pub targets: u64,
 }
 
@@ -132,6 +136,7 @@ impl Places {
         match *op {
             Op::Recv(count) => self.add_recv(place, count),
             Op::Clause(_, _, target) => self.add_clause(place, target),
+            Op::After(target) => self.add_after(place, target),
             Op::Jump(target) | Op::Same(_, _, target) | Op::Less(_, _, target) => self.add_target(target),
             _ => {}
         }
@@ -140,6 +145,7 @@ impl Places {
     #[inline]
     pub fn add_recv(&mut self, place: usize, count: u8) {
         self.wanted |= ((1 << count) - 1) << (place + 1);
+        self.behind |= 1 << (place + 1 + usize::from(count));
     }
 
     #[inline]
@@ -149,21 +155,27 @@ impl Places {
     }
 
     #[inline]
+    pub fn add_after(&mut self, place: usize, target: u8) {
+        self.afters |= 1 << place;
+        self.add_target(target);
+    }
+
+    #[inline]
     pub fn add_target(&mut self, target: u8) {
         self.targets |= 1 << target;
     }
 
-    /// No recv lacks its clauses, no clause is stray and none is a target: what 14 tells.
+    /// No recv lacks its clauses, no clause and no after is stray and none is a target: what 14 tells.
     #[inline]
     pub fn are_good(&self) -> bool {
-        self.clauses == self.wanted && self.clauses & self.targets == 0
+        self.clauses == self.wanted && self.afters & !self.behind == 0 && (self.clauses | self.afters) & self.targets == 0
     }
 }
 
 impl Op {
     pub fn target(&self) -> Option<u8> {
         match *self {
-            Op::Clause(_, _, target) | Op::Jump(target) | Op::Same(_, _, target) | Op::Less(_, _, target) => Some(target),
+            Op::Clause(_, _, target) | Op::Jump(target) | Op::Same(_, _, target) | Op::Less(_, _, target) | Op::After(target) => Some(target),
             _ => None,
         }
     }

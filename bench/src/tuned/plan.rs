@@ -34,6 +34,7 @@ mod words {
     pub const STOP: u64 = word(b"stop");
     pub const MONITOR: u64 = word(b"monitor");
     pub const DEMONITOR: u64 = word(b"demonitor");
+    pub const AFTER: u64 = word(b"after");
 
     pub const ANY: u64 = word(b"any");
     pub const INT: u64 = word(b"int");
@@ -199,6 +200,7 @@ impl Plan<'_> {
             words::STOP => Op::Stop(self.register()?),
             words::MONITOR => Op::Monitor(self.register()?),
             words::DEMONITOR => Op::Demonitor(self.register()?),
+            words::AFTER => Op::After(self.place()?),
             _ => return Err(Malformed),
         })
     }
@@ -265,7 +267,7 @@ impl Plan<'_> {
     }
 }
 
-/// The line of the first recv without its clauses, stray clause or op whose target is a clause.
+/// The line of the first recv without its clauses, stray clause, stray after, or op whose target is a clause or an after.
 fn misplaced(node: &Node) -> Option<usize> {
     // The line of the first `code=`.
     let mut line = 3;
@@ -286,13 +288,19 @@ impl Behaviour {
             return None;
         }
         let is_clause = |place: u8| places.clauses >> place & 1 == 1;
+        let is_barred = |place: u8| (places.clauses | places.afters) >> place & 1 == 1;
         let mut due = 0;
         (0..self.count).find(|&place| {
             let op = &self.ops[usize::from(place)];
-            let stray = is_clause(place) && due == 0;
+            let stray = match *op {
+                Op::Clause(..) => due == 0,
+                // Of a recv that lacks clauses the line is told, which is lower.
+                Op::After(_) => places.behind >> place & 1 == 0,
+                _ => false,
+            };
             let lacking = matches!(*op, Op::Recv(count) if (1..=count).any(|k| !is_clause(place + k)));
             due = if let Op::Recv(count) = *op { count } else { due.saturating_sub(1) };
-            stray || lacking || op.target().is_some_and(is_clause)
+            stray || lacking || op.target().is_some_and(is_barred)
         })
         .map(usize::from)
     }

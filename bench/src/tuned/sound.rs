@@ -57,6 +57,10 @@ impl Behaviour {
                     places.add_clause(place, target);
                     pattern.is_sound()
                 }
+                Op::After(target) if target <= count => {
+                    places.add_after(place, target);
+                    true
+                }
                 Op::Jump(target) | Op::Less(_, _, target) if target <= count => {
                     places.add_target(target);
                     true
@@ -65,7 +69,7 @@ impl Behaviour {
                     places.add_target(target);
                     value.is_sound()
                 }
-                Op::Recv(_) | Op::Clause(..) | Op::Jump(_) | Op::Less(..) | Op::Same(..) | Op::End => false,
+                Op::Recv(_) | Op::Clause(..) | Op::Jump(_) | Op::Less(..) | Op::Same(..) | Op::After(_) | Op::End => false,
                 _ => true,
             };
             if !good {
@@ -96,6 +100,6 @@ impl Process {
 
     #[inline]
     fn place_is_sound(&self, behaviour: &Behaviour) -> bool {
-        self.place <= behaviour.count && !matches!(behaviour.ops[usize::from(self.place)], Op::Clause(..))
+        self.place <= behaviour.count && !matches!(behaviour.ops[usize::from(self.place)], Op::Clause(..) | Op::After(_))
     }
 }

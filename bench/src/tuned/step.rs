@@ -1,4 +1,4 @@
-//! The steps: run, arrive, and a play of a row of them.
+//! The steps: run, arrive, timeout, and a play of a row of them.
 
 use super::sound::NOT_SOUND;
 use super::steps::{MOST_STEPS, TOO_LONG};
@@ -9,6 +9,7 @@ use super::{Behaviour, Message, Node, Op, Pattern, Process, Register, Row, Signa
 pub enum Step {
     Run(u8),
     Arrive { to: u8, from: u8 },
+    Timeout(u8),
 }
 
 /// The refusals of steps by their numbers; each leaves the node unchanged.
@@ -23,6 +24,7 @@ enum Refusal {
     NoFit = 25,
     PairFull = 26,
     NotUnborn = 27,
+    NoTimeout = 28,
 }
 
 impl Node {
@@ -60,6 +62,7 @@ impl Node {
         match step {
             Step::Run(process) => self.run(index(process)?),
             Step::Arrive { to, from } => self.arrive(index(to)?, index(from)?),
+            Step::Timeout(process) => self.timeout(index(process)?),
         }
     }
 
@@ -113,8 +116,8 @@ impl Node {
             Op::Trap(flag) => process.set_trap(flag),
             Op::Spawn(r, behaviour, spawned) => self.spawn(i, r, behaviour, spawned)?,
             Op::Recv(count) => process.receive(behaviour, count)?,
-            // No place of a sound node is on a clause.
-            Op::Clause(..) => {}
+            // No place of a sound node is on a clause or an after.
+            Op::Clause(..) | Op::After(_) => {}
             Op::Jump(target) => process.place = target,
             Op::Same(r, value, target) => process.branch(process.get(r) == value, target),
             Op::Less(r, s, target) => process.less(r, s, target),
@@ -163,6 +166,16 @@ impl Node {
         }
         row.pop(to);
         Ok(())
+    }
+
+    #[inline]
+    fn timeout(&mut self, i: usize) -> Result<(), Refusal> {
+        let process = &mut self.processes[i];
+        match process.stage {
+            Stage::Unborn => Err(Refusal::OwnerUnborn),
+            Stage::Live => process.give_up(&self.behaviours[usize::from(process.behaviour)]),
+            Stage::Closing | Stage::Gone => Err(Refusal::NoTimeout),
+        }
     }
 
     /// At a closing or gone process every signal is dropped; a monitor is answered.
@@ -363,6 +376,21 @@ impl Process {
                 self.registers[r as usize] = Value::pid(sender);
                 self.registers[s as usize] = message.value();
             }
+        }
+        self.place = target;
+        Ok(())
+    }
+
+    /// At a recv with an after, and no message that fits: on to where the after leads.
+    #[inline]
+    fn give_up(&mut self, behaviour: &Behaviour) -> Result<(), Refusal> {
+        let place = usize::from(self.place);
+        let Op::Recv(count) = behaviour.ops[place] else { return Err(Refusal::NoTimeout) };
+        let behind = place + 1 + usize::from(count);
+        // At place N, where the clauses of a sound node end at the latest, stands an End.
+        let Op::After(target) = behaviour.ops[behind] else { return Err(Refusal::NoTimeout) };
+        if self.first_fit(&behaviour.patterns[place + 1..behind]).is_some() {
+            return Err(Refusal::NoTimeout);
         }
         self.place = target;
         Ok(())

@@ -36,11 +36,13 @@ pub fn read(text: &[u8], steps: &mut [Step; MOST_STEPS]) -> Result<usize, Refuse
 fn read_step(reader: &mut Reader) -> Result<Step, Malformed> {
     let step = if reader.expect(b"run=").is_ok() {
         Step::Run(process(reader)?)
-    } else {
-        reader.expect(b"arrive=")?;
+    } else if reader.expect(b"arrive=").is_ok() {
         let to = process(reader)?;
         reader.expect(b",")?;
         Step::Arrive { to, from: process(reader)? }
+    } else {
+        reader.expect(b"timeout=")?;
+        Step::Timeout(process(reader)?)
     };
     reader.expect(b"\n")?;
     Ok(step)

@@ -5,7 +5,7 @@
 --   behaviourAt b       the length of behaviour b
 --   opAt b place        the op at a place of behaviour b
 --   decodedOf k         what the number k of a step says: whether a process number in it is none, its action, and where its parts stand;
---                       0 where a process number is none, and for the row of a run
+--                       0 where a process number is none, and for the row of a run or a timeout
 use mathlib.Core.Bool.{cond, not, _&&_}
 use Prim.Native.Nat.{ℕ, _+_, _-_, _*_, _/_, _%_}
 use lib.Dec.{eqb}
@@ -29,6 +29,7 @@ unfoldable pub decodedOf : ℕ → Decoded
 decodedOf k = record {
   bad = not (numbered (actionOf k));
   arrives = eqb (k / 65536) 1;
+  expires = eqb (k / 65536) 2;
   owner = record { 0 = k / 256 % 256 };
   from = record { 0 = k % 256 };
   at = cond (numbered (actionOf k)) (processAt (k / 256 % 256)) 0;

@@ -1,5 +1,5 @@
 // A step as one number: its action, and where its parts stand in a node.
-ghost use mathlib.Core.Bool.{true};
+ghost use mathlib.Core.Bool.{true, false};
 ghost use mathlib.Core.Path.{_≡_};
 ghost use Prim.Native.Nat.{_<_};
 ghost use lib.Dec.{eqb};
@@ -10,11 +10,12 @@ use node::ProcessNumber;
 use node::Step;
 use node::is_number;
 
-// What the number of a step says: whether a process number in it is none (20), whether it is an arrival, whose it is, from whom, and where
-// the owner's process and the row stand.
+// What the number of a step says: whether a process number in it is none (20), whether it is an arrival or a timeout, whose it is, from whom,
+// and where the owner's process and the row stand.
 pub struct Decoded {
     pub bad: bool,
     pub arrives: bool,
+    pub expires: bool,
     pub owner: ProcessNumber,
     pub from: ProcessNumber,
     pub at: usize,
@@ -78,14 +79,10 @@ pub fn decode(s: u32) -> Decoded
         return unnumbered(kind, owner, from);
     }
     if kind == 0 {
-        return Decoded {
-            bad: false,
-            arrives: false,
-            owner,
-            from,
-            at: process_index(owner),
-            row: 0,
-        };
+        return own(false, owner, from);
+    }
+    if kind == 2 {
+        return own(true, owner, from);
     }
     if kind != 1 {
         return unnumbered(kind, owner, from);
@@ -96,6 +93,7 @@ pub fn decode(s: u32) -> Decoded
     Decoded {
         bad: false,
         arrives: true,
+        expires: false,
         owner,
         from,
         at: process_index(owner),
@@ -103,13 +101,30 @@ pub fn decode(s: u32) -> Decoded
     }
 }
 
+// A run or a timeout: it is of its owner alone.
+fn own(expires: bool, owner: ProcessNumber, from: ProcessNumber) -> Decoded
+    ensures { λ r. ⌜ r ≡ record { bad = false; arrives = false; expires = expires; owner = owner; from = from; at = processAt (owner .0); row = 0 } ⌝ }
+    ensures { λ r. ⌜ (r .at < 16) × (r .row < 256) ⌝ }
+{
+    Decoded {
+        bad: false,
+        arrives: false,
+        expires,
+        owner,
+        from,
+        at: process_index(owner),
+        row: 0,
+    }
+}
+
 // 20: a process number of the step is none, or its kind is none.
 fn unnumbered(kind: u32, owner: ProcessNumber, from: ProcessNumber) -> Decoded
-    ensures { λ r. ⌜ r ≡ record { bad = true; arrives = eqb kind 1; owner = owner; from = from; at = 0; row = 0 } ⌝ }
+    ensures { λ r. ⌜ r ≡ record { bad = true; arrives = eqb kind 1; expires = eqb kind 2; owner = owner; from = from; at = 0; row = 0 } ⌝ }
 {
     Decoded {
         bad: true,
         arrives: kind == 1,
+        expires: kind == 2,
         owner,
         from,
         at: 0,

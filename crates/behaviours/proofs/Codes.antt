@@ -5,7 +5,6 @@ use mathlib.Core.Logic.{_⊎_, inl, inr}
 use mathlib.Core.Path.{_≡_, refl, sym, _∙_, ap}
 use Prim.Native.Nat.{ℕ, _+_, _-_, _*_, _≤_, _<_}
 use native.Mathlib.Omega.{arith}
-use borrow.Author.Tests.{ne-eqb}
 use lib.Dec.{eqb}
 use lib.ListN.{length, getD, drop, List·getD-eq-default}
 use lib.Seq.{getD-drop}
@@ -14,9 +13,9 @@ use Rattle.node.specs.declared.OperandKind.{OperandKind}
 use Rattle.node.specs.declared.OperandKind.the-variants.{NoOperand, RegisterR, RegisterS, ValueV, PlaceT, BehaviourB, ProcessQ, FlagF, CountN, KindK}
 use Rattle.node.specs.Lists.{allOf}
 use Rattle.node.specs.Nodes.{noOp}
-use Rattle.node.specs.Ops.{clauseOp, isKind, kindsOf, recvOp}
+use Rattle.node.specs.Ops.{isKind, isPart, kindsOf, recvOp}
 use Rattle.node.proofs.Lists.{allTwo-map, getD-in, held-at, held-length, map-rising-at, map-rising-length}
-use Rattle.rules.specs.Behaviours.{Instruction, clauseCount, instruction, noInstruction, numeric, onClause, operand, targetsFree}
+use Rattle.rules.specs.Behaviours.{Instruction, clauseCount, instruction, noInstruction, numeric, onPart, operand, targetsFree}
 use Rattle.behaviours.specs.Codes.{codeIn, codesIn, hasTarget}
 
 -- ---- ops
@@ -36,14 +35,14 @@ pub code-at : (n : ℕ) (ops : List Op) (k t : ℕ) → t < n → getD (codeIn n
 unfolding codeIn
 code-at n ops k t h = held-at instruction noOp n (drop (32 * k) ops) t h ∙ ap instruction (getD-drop (32 * k) ops t noOp)
 
-pub on-clause-end : (code : List Instruction) (t : ℕ) → length code ≤ t → onClause code t ≡ false
-on-clause-end code t h = ap (λ (x : Instruction). eqb (x .number) clauseOp) (List·getD-eq-default code noInstruction {n = t} h)
+pub on-part-end : (code : List Instruction) (t : ℕ) → length code ≤ t → onPart code t ≡ false
+on-part-end code t h = ap (λ (x : Instruction). isPart (x .number)) (List·getD-eq-default code noInstruction {n = t} h)
 
-pub on-clause-at : (n : ℕ) (ops : List Op) (k t : ℕ) → t < n → onClause (codeIn n ops k) t ≡ eqb (getD ops (32 * k + t) noOp .number) clauseOp
+pub on-part-at : (n : ℕ) (ops : List Op) (k t : ℕ) → t < n → onPart (codeIn n ops k) t ≡ isPart (getD ops (32 * k + t) noOp .number)
 unfolding instruction
-on-clause-at n ops k t h =
+on-part-at n ops k t h =
     let l : t < length (codeIn n ops k) = rw (code-length n ops k) h in
-    ap (λ (x : Instruction). eqb (x .number) clauseOp) (getD-in (codeIn n ops k) t noInstruction (instruction noOp) l ∙ code-at n ops k t h)
+    ap (λ (x : Instruction). isPart (x .number)) (getD-in (codeIn n ops k) t noInstruction (instruction noOp) l ∙ code-at n ops k t h)
 
 -- one operand after the other, for a test q of a target
 one-kind : (o : Op) (q : ℕ → Bool) (kind : OperandKind) (a : Bool) → ((not (isKind PlaceT kind) || q (operand o kind .number)) && cond (not a) (q (o .target)) true)
@@ -71,34 +70,34 @@ all-kinds o q [] = refl
 all-kinds o q (kind ∷ ks) =
     ap (λ (b : Bool). (not (isKind PlaceT kind) || q (operand o kind .number)) && b) (all-kinds o q ks) ∙ one-kind o q kind (allOf (λ (k : OperandKind). not (isKind PlaceT k)) ks)
 
-landed : (code : List Instruction) (h : Bool) (t : ℕ) → cond h (not (onClause code t)) true ≡ not (onClause code (cond h t (length code)))
+landed : (code : List Instruction) (h : Bool) (t : ℕ) → cond h (not (onPart code t)) true ≡ not (onPart code (cond h t (length code)))
 landed code true t = refl
-landed code false t = rw (on-clause-end code (length code) (omega arith))
+landed code false t = rw (on-part-end code (length code) (omega arith))
 
-target-free : (code : List Instruction) (o : Op) → targetsFree code (instruction o) ≡ not (onClause code (cond (hasTarget (o .number)) (o .target) (length code)))
+target-free : (code : List Instruction) (o : Op) → targetsFree code (instruction o) ≡ not (onPart code (cond (hasTarget (o .number)) (o .target) (length code)))
 unfolding targetsFree instruction hasTarget
 target-free code o =
-    allTwo-map (λ kind x. not (isKind PlaceT kind) || not (onClause code (x .number))) (operand o) (kindsOf (o .number))
-    ∙ all-kinds o (λ t. not (onClause code t)) (kindsOf (o .number))
+    allTwo-map (λ kind x. not (isKind PlaceT kind) || not (onPart code (x .number))) (operand o) (kindsOf (o .number))
+    ∙ all-kinds o (λ t. not (onPart code t)) (kindsOf (o .number))
     ∙ landed code (hasTarget (o .number)) (o .target)
 
 -- an op that may lead to place `to`, and the op at place t
-pub target-to : (n : ℕ) (ops : List Op) (k : ℕ) (o : Op) (to : ℕ) → to ≡ cond (hasTarget (o .number)) (o .target) n → targetsFree (codeIn n ops k) (instruction o) ≡ not (onClause (codeIn n ops k) to)
+pub target-to : (n : ℕ) (ops : List Op) (k : ℕ) (o : Op) (to : ℕ) → to ≡ cond (hasTarget (o .number)) (o .target) n → targetsFree (codeIn n ops k) (instruction o) ≡ not (onPart (codeIn n ops k) to)
 target-to n ops k o to e =
     target-free (codeIn n ops k) o
-    ∙ ap (λ (m : ℕ). not (onClause (codeIn n ops k) (cond (hasTarget (o .number)) (o .target) m))) (code-length n ops k)
-    ∙ ap (λ (u : ℕ). not (onClause (codeIn n ops k) u)) (sym e)
+    ∙ ap (λ (m : ℕ). not (onPart (codeIn n ops k) (cond (hasTarget (o .number)) (o .target) m))) (code-length n ops k)
+    ∙ ap (λ (u : ℕ). not (onPart (codeIn n ops k) u)) (sym e)
 
 module _ (n : ℕ) (ops : List Op) (k : ℕ) (o : Op) {to : ℕ} (by : to ≡ cond (hasTarget (o .number)) (o .target) n) where
   pub lands-end : n ≤ to → true ≡ targetsFree (codeIn n ops k) (instruction o)
-  lands-end h = sym (target-to n ops k o to by ∙ ap not (on-clause-end (codeIn n ops k) to (omega (arith, code-length n ops k))))
+  lands-end h = sym (target-to n ops k o to by ∙ ap not (on-part-end (codeIn n ops k) to (omega (arith, code-length n ops k))))
 
-  pub lands-at : {x : Op} → to < n → x ≡ getD ops (32 * k + to) noOp → not (eqb (x .number) clauseOp) ≡ targetsFree (codeIn n ops k) (instruction o)
-  lands-at h e = sym (target-to n ops k o to by ∙ ap not (on-clause-at n ops k to h) ∙ ap (λ (y : Op). not (eqb (y .number) clauseOp)) (sym e))
+  pub lands-at : {x : Op} → to < n → x ≡ getD ops (32 * k + to) noOp → not (isPart (x .number)) ≡ targetsFree (codeIn n ops k) (instruction o)
+  lands-at h e = sym (target-to n ops k o to by ∙ ap not (on-part-at n ops k to h) ∙ ap (λ (y : Op). not (isPart (y .number))) (sym e))
 
-  -- where it leads is past the end, or on another op than a clause
-  pub lands-free : ((to < n) × (getD ops (32 * k + to) noOp .number ≡ clauseOp → ⊥)) ⊎ (n ≤ to) → targetsFree (codeIn n ops k) (instruction o) ≡ true
-  lands-free (inl w) = sym (lands-at (w .0) refl) ∙ ap not (ne-eqb (getD ops (32 * k + to) noOp .number) clauseOp (w .1))
+  -- where it leads is past the end, or on no part of a recv
+  pub lands-free : ((to < n) × (isPart (getD ops (32 * k + to) noOp .number) ≡ false)) ⊎ (n ≤ to) → targetsFree (codeIn n ops k) (instruction o) ≡ true
+  lands-free (inl w) = sym (lands-at (w .0) refl) ∙ ap not (w .1)
   lands-free (inr h) = sym (lands-end h)
 
 -- ---- all behaviours

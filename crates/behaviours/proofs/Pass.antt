@@ -1,14 +1,14 @@
 -- Rules 12 and 14 of all behaviours by one pass over their ops, one behaviour after the other. Assumes nothing.
---   leftFrom c codes t k      the rules of `codes`, but for the first t ops of the first of them, behind which k clauses are due
---   Pass c lens ops b t k g   what a loop keeps at place t of behaviour b, where k clauses are due: what is left gives g
+--   leftFrom c codes t k      the rules of `codes`, but for the first t ops of the first of them, behind which k parts of a recv may stand
+--   Pass c lens ops b t k g   what a loop keeps at place t of behaviour b, where k parts of a recv may stand: what is left gives g
 use mathlib.Core.Bool.{Bool, true, false, _&&_, and-false}
 use mathlib.Core.List.{List, [], _∷_}
 use mathlib.Core.Path.{_≡_, refl, sym, _∙_, ap}
 use Prim.Native.Nat.{ℕ, _+_, _*_, _≤_, _<_}
 use native.Mathlib.Numerals.{add-one}
 use native.Mathlib.Omega.{arith}
-use borrow.Author.Tests.{eq-eqb, ne-eqb}
-use lib.Dec.{eqb, leb}
+use borrow.Author.Tests.{le-leb, lt-leb}
+use lib.Dec.{leb}
 use lib.ListN.{length, getD, take, drop, drop-of-length-le}
 use lib.Seq.{drop-cons}
 use Rattle.node.specs.declared.Op.{Op}
@@ -81,14 +81,11 @@ module _ (c : ℕ) (lens : List ℕ) (ops : List Op) where
 
       -- no op of this behaviour is left
       module _ (l : size ≤ t) where
-        end-is : left c size ours t k ≡ eqb k 0
+        end-is : left c size ours t k ≡ leb k 1
         end-is = left-end c size ours t k (rw (code-length size ops b) l)
 
-        pub due-stop : (k ≡ 0 → ⊥) → false ≡ g
-        due-stop e = stop (end-is ∙ ne-eqb k 0 e)
+        pub due-stop : 1 < k → false ≡ g
+        due-stop e = stop (end-is ∙ lt-leb k 1 e)
 
-        pub next-code : (leb 1 size && leb size 32) ≡ true → k ≡ 0 → Pass c lens ops (b + 1) 0 k g
-        next-code s e = record {
-          clauses = e;
-          gives = p .gives ∙ opened t k ∙ rw (s, end-is, eq-eqb k 0 e) (from-start c (drop (b + 1) (codesIn c lens ops))) ∙ ap (leftFrom c (drop (b + 1) (codesIn c lens ops)) 0) (sym e);
-        }
+        pub next-code : (leb 1 size && leb size 32) ≡ true → k ≤ 1 → Pass c lens ops (b + 1) 0 0 g
+        next-code s e = record { clauses = refl; gives = p .gives ∙ opened t k ∙ rw (s, end-is, le-leb k 1 e) (from-start c (drop (b + 1) (codesIn c lens ops))) }

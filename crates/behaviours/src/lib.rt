@@ -1,4 +1,4 @@
-// Behaviours by the plan's rules: 12, each operand in range, and 14, clauses and targets where they belong.
+// Behaviours by the plan's rules: 12, each operand in range, and 14, clauses, `after` and targets where they belong.
 ghost use mathlib.Core.Bool.{_&&_, cond};
 ghost use mathlib.Core.Path.{_≡_};
 ghost use lib.Dec.{eqb, leb};
@@ -6,6 +6,7 @@ ghost use Rattle.node.specs.Lists.{allOf};
 ghost use Rattle.node.specs.Values.{exactKind, intZero, isNumber, lastKind, valueSound};
 ghost use Rattle.rules.specs.Behaviours.{codeSound, dueNext, inRange, instruction};
 ghost use Rattle.behaviours.specs.Codes.{codesIn, hasTarget, placedBy};
+use node::AFTER;
 use node::BehaviourNumber;
 use node::CLAUSE;
 use node::EXACT;
@@ -16,6 +17,7 @@ use node::RECV;
 use node::Shape;
 use node::Value;
 use node::is_number;
+use node::is_part;
 use node::shape_of;
 use node::value_sound;
 use node::within;
@@ -29,7 +31,7 @@ pub fn behaviours_sound(count: u8, lens: [u8; 8], ops: [Op; 256]) -> bool
     }
     let mut b: usize = 0;
     let mut t: u8 = 0;
-    let mut due: u8 = 0;
+    let mut due: u16 = 0;
     while b < count as usize {
         let len = lens[b];
         if !within(len, 1, 32) {
@@ -41,7 +43,7 @@ pub fn behaviours_sound(count: u8, lens: [u8; 8], ops: [Op; 256]) -> bool
         }
         let to = landing(op, len);
         if to < len {
-            if ops[32 * b + (to as usize)].number == CLAUSE {
+            if is_part(ops[32 * b + (to as usize)].number) {
                 return false;
             }
         }
@@ -50,35 +52,40 @@ pub fn behaviours_sound(count: u8, lens: [u8; 8], ops: [Op; 256]) -> bool
         if t < len {
             continue;
         }
-        if due != 0 {
+        if 1 < due {
             return false;
         }
+        due = 0;
         t = 0;
         b += 1;
     }
     true
 }
 
-// An op in range that is a clause exactly where one is due.
-pub fn op_sound(op: Op, count: u8, len: u8, due: u8) -> bool
+// An op in range that is a clause where one is due, and an `after` only where one may stand.
+pub fn op_sound(op: Op, count: u8, len: u8, due: u16) -> bool
     ensures { λ r. ⌜ r ≡ (inRange count len (instruction op) && placedBy due (instruction op)) ⌝ }
 {
     if !in_range(op, count, len) {
         return false;
     }
-    if op.number == CLAUSE {
-        return 0 < due;
+    let number = op.number;
+    if number == CLAUSE {
+        return 1 < due;
     }
-    due == 0
+    if number == AFTER {
+        return due == 1;
+    }
+    due <= 1
 }
 
-// How many clauses are due behind an op, where `due` were before it.
-pub fn due_next(due: u8, op: Op) -> u8
+// How many parts of a recv may stand behind an op, where `due` could before it.
+pub fn due_next(due: u16, op: Op) -> u16
     ensures { λ r. ⌜ r ≡ dueNext due (instruction op) ⌝ }
 {
     let number = op.number;
     if number == RECV {
-        return op.small;
+        return (op.small as u16) + 1;
     }
     if number == CLAUSE {
         if 0 < due {
@@ -88,7 +95,7 @@ pub fn due_next(due: u8, op: Op) -> u8
     0
 }
 
-// The place that an op may lead to by an operand; its behaviour's end, which is on no clause, where it has none.
+// The place that an op may lead to by an operand; its behaviour's end, which is on no part of a recv, where it has none.
 pub fn landing(op: Op, len: u8) -> u8
     ensures { λ r. ⌜ r ≡ cond (hasTarget (op .number)) (op .target) len ⌝ }
 {

@@ -15,6 +15,7 @@ pub(crate) fn all() {
     blocked();
     all_gone();
     one_run();
+    one_timeout();
     one_arrival();
     last_process();
     many();
@@ -59,11 +60,12 @@ fn played(name: &[u8], numbers: &[u32]) {
     show::played(engine::play(counting(), numbers));
 }
 
-// A single step: a run, of which `from` means nothing; an arrival; and a record whose kind is neither.
+// A single step: a run or a timeout, of which `from` means nothing; an arrival; and a record whose kind is none of these.
 fn steps() {
     one_step(b"step run", 0, 99);
     one_step(b"step arrival", 1, 1);
-    one_step(b"step of no kind", 2, 1);
+    one_step(b"step timeout", 2, 99);
+    one_step(b"step of no kind", 3, 1);
 }
 
 // A step of process 1, which stands at a stop.
@@ -80,7 +82,7 @@ fn one_step(name: &[u8], kind: u8, from: u8) {
     show::listed(r.node);
 }
 
-fn stopping() -> Node {
+pub(crate) fn stopping() -> Node {
     show::reached(
         b"plan=1
 behaviours=1
@@ -99,10 +101,14 @@ fn nobody() {
     suggest(Node::blank());
 }
 
-// A process that waits for mail, with nothing in flight.
 fn waiting() {
-    suggested(
-        b"suggest: a process waits",
+    show::title(b"suggest: a process waits");
+    suggest(receiving());
+}
+
+// A process that waits for mail, with nothing in flight.
+pub(crate) fn receiving() -> Node {
+    show::reached(
         b"plan=1
 behaviours=1
 code=2
@@ -112,7 +118,7 @@ starts=1
 start=1,1
 ",
         b"",
-    );
+    )
 }
 
 // Process 1 sends to a full pair (26), and process 4, to whom the signals go, is unborn (21).
@@ -162,6 +168,28 @@ run=1
 fn one_run() {
     show::title(b"suggest: one run");
     suggest(stopping());
+}
+
+// Process 2 waits with a message that does not fit, and may give up.
+fn one_timeout() {
+    suggested(
+        b"suggest: one timeout",
+        b"plan=1
+behaviours=1
+code=5
+op=self,0
+op=send,0,0
+op=recv,1
+op=clause,int,1,1,5
+op=after,5
+starts=1
+start=2,1
+",
+        b"run=2
+run=2
+arrive=2,2
+",
+    );
 }
 
 // Processes 2 and 3 wait, and a signal is in flight from 2 to 3.
@@ -274,6 +302,10 @@ fn named(s: Step) {
     let from = s.from;
     if s.kind == 0 {
         show::one(b"run=", owner.0 as u64);
+        return;
+    }
+    if s.kind == 2 {
+        show::one(b"timeout=", owner.0 as u64);
         return;
     }
     show::two(b"arrive=", owner.0 as u64, from.0 as u64);

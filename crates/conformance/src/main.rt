@@ -11,6 +11,7 @@ mod plays;
 mod refused;
 mod show;
 mod texts;
+mod timeouts;
 mod unsound;
 mod watches;
 
@@ -20,6 +21,7 @@ fn main() {
     codes::all();
     limits::all();
     watches::all();
+    timeouts::all();
     calls::all();
     plays::all();
     texts::all();

@@ -23,9 +23,9 @@ fn lent_refused() {
     lent(b"records: until one is refused", &numbers);
 }
 
-// A record whose kind is neither 0 nor 1.
+// A record whose kind is none.
 fn lent_no_kind() {
-    let numbers = [256u32, 131328];
+    let numbers = [256u32, 196864];
     lent(b"records: of no kind", &numbers);
 }
 

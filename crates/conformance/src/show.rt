@@ -15,6 +15,12 @@ pub(crate) fn run(n: Node) {
     told(n, &numbers);
 }
 
+// A play of `timeout 1`.
+pub(crate) fn timeout(n: Node) {
+    let numbers = [131328u32];
+    told(n, &numbers);
+}
+
 // What a play tells, in a line.
 pub(crate) fn told(n: Node, numbers: &[u32]) {
     let r = engine::play(n, numbers);

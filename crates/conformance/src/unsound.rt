@@ -51,7 +51,7 @@ pub(crate) fn with_length(length: u8) -> Node {
 
 // Behaviours pass the plan's rules.
 fn codes() {
-    refused::with_op(b"31 an op that is none", AT_JUMP, codes::plain(18));
+    refused::with_op(b"31 an op that is none", AT_JUMP, codes::plain(19));
     refused::with_op(
         b"31 a recv without its clauses",
         AT_RECV,

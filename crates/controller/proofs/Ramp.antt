@@ -34,14 +34,15 @@ use Rattle.rules.specs.Behaviours.{operand, instruction, operandInRange, inRang
 use Rattle.rules.specs.Nodes.{Sound, sound, shaped, viewSound, view, behavioursOf, code, setOf, standing, runningSound, rowSound}
 use Rattle.rules.specs.Receive.{receives, fits}
 use Rattle.rules.specs.Run.{runs, runsLive, runsOp, closes}
-use Rattle.rules.specs.Steps.{Action, run, arrive, meaning, Outcome, play, played, step, rule, ready, commit, incoming, decide, numbered, ownerBorn, signalWaits, pairHasRoom, numberFree}
+use Rattle.rules.specs.Timeout.{atAfter, expiresLive, expires}
+use Rattle.rules.specs.Steps.{Action, run, arrive, timeout, meaning, Outcome, play, played, step, rule, ready, commit, incoming, decide, numbered, ownerBorn, signalWaits, pairHasRoom, numberFree}
 use Rattle.rules.proofs.Sample.{opOf, int, sample, started}
 use Rattle.actions.specs.Numbers.{encode, decode, actionOf}
 use Rattle.listing.specs.Listing.{listingOf}
 use Rattle.listing.proofs.Examples.{sample-listing}
 use Rattle.plan.specs.Plans.{nodeOf, loadOf}
 use Rattle.plan.proofs.Examples.{opWith, startWith, samplePlan, sample as loaded-sample}
-use Rattle.schedule.specs.Reading.{packedOf, arrivalOf, stepOf, readLines, firstMalformed, stepsOf, refusedText, acceptedSteps, ofLines, scheduleOf}
+use Rattle.schedule.specs.Reading.{packedOf, ownOf, arrivalOf, stepOf, readLines, firstMalformed, stepsOf, refusedText, acceptedSteps, ofLines, scheduleOf}
 use Rattle.text.specs.Numbers.{isDigit, unsignedForm, negative, unsigned, numberForm, decimal, numberValue, numberOf, rangedOf}
 use Rattle.text.specs.Parts.{split, inFront, lineThen, lastApart, linesOf, fieldsOf, equal, startsWith}
 use Rattle.text.specs.Writing.{digits, digitsIn, numberLine}
@@ -49,7 +50,7 @@ use Rattle.controller.specs.Program.{playedText, steps, afterLoad, progr
 
 -- ---- a node to check on: processes 1 and 2 are started, the behaviours are those that the checks run
 
--- 1 add,0,1   2 send,0,1   3 recv,2 with the clauses atom, int   4 spawn,1,1,1   5 monitor,0
+-- 1 add,0,1   2 send,0,1   3 recv,2 with the clauses atom, int   4 spawn,1,1,1   5 monitor,0   6 recv,1 with the clause atom, after,3
 ramp-ops : List Op
 ramp-ops =
     firsts stopOp 32 (opOf 3 0 1 0 0 intZero ∷ [])
@@ -57,13 +58,14 @@ ramp-ops =
     ++ firsts stopOp 32 (opOf 10 0 0 0 2 intZero ∷ opOf 11 0 1 3 atomKind intZero ∷ opOf 11 0 1 3 intKind intZero ∷ [])
     ++ firsts stopOp 32 (record { number = 9; r = 1; s = 0; target = 0; small = 0; value = intZero; process = record { 0 = 1 }; behaviour = record { 0 = 1 } } ∷ [])
     ++ firsts stopOp 32 (opOf 16 0 0 0 0 intZero ∷ [])
-    ++ replicate 96 stopOp
+    ++ firsts stopOp 32 (opOf 10 0 0 0 1 intZero ∷ opOf 11 0 1 3 atomKind intZero ∷ opOf 18 0 0 3 0 intZero ∷ [])
+    ++ replicate 64 stopOp
 
 -- process 1, its mailbox, and the row in flight from j to i
 world : Process → List Message → ℕ → ℕ → List Signal → Node
 world p ms j i xs = record {
-  count = 5;
-  lens = 1 ∷ 1 ∷ 3 ∷ 1 ∷ 1 ∷ replicate 3 0;
+  count = 6;
+  lens = 1 ∷ 1 ∷ 3 ∷ 1 ∷ 1 ∷ 3 ∷ replicate 2 0;
   ops = ramp-ops;
   processes = p ∷ fresh (record { 0 = 1 }) intZero ∷ replicate 14 unborn;
   waiting = length ms ∷ replicate 15 0;
@@ -176,6 +178,10 @@ watcher = withWatches (plain false unlinkedLinks) linkTwo
 monitorer : Value → Process
 monitorer v = rower 5 v intZero false unlinkedLinks
 
+-- process 1 at `recv,1` with an `after`
+waiter : Process
+waiter = rower 6 intZero intZero false unlinkedLinks
+
 -- ---- P2: the sample of document 01, byte by byte
 
 sample-plan : List ℕ
@@ -259,6 +265,13 @@ table =
     -- monitor to itself: nothing; without a p: ends with a3
     ∷ running (monitorer (pid 1)) (withPlace (monitorer (pid 1)) 1)
     ∷ running (monitorer (int 7)) (ended (monitorer (int 7)) badarg)
+    -- a timeout at a recv with `after`: with empty mail, and with mail that does not fit
+    ∷ playing (world waiter [] 1 1 []) (timeout 1 ∷ []) 1 0 (world (withPlace waiter 3) [] 1 1 [])
+    ∷ playing (world waiter (fives 16) 1 1 []) (timeout 1 ∷ []) 1 0 (world (withPlace waiter 3) (fives 16) 1 1 [])
+    -- with mail that fits, at a recv without `after`, of a gone process: 28
+    ∷ refusing (world waiter (Plain (int 5) ∷ Plain (Atom 7) ∷ []) 1 1 []) (timeout 1) 28
+    ∷ refusing (world (rower 3 intZero intZero false unlinkedLinks) [] 1 1 []) (timeout 1) 28
+    ∷ refusing (world over [] 1 1 []) (timeout 1) 28
     -- the sample plan, after run=1 three times, arrive=2,1, run=2
     ∷ playing started sampleActions 5 0
     (holding 16 (Plain (int 12)) (sample (withPlace (rower 1 (pid 2) (int 12) false unlinkedLinks) 3) (withPlace (rower 2 (int 12) intZero false unlinkedLinks) 2)))
@@ -275,7 +288,7 @@ unfolding sample-plan
 sample-loaded = loaded-sample ∙ ap (λ (n : Node). record { number = 0; line = 0; node = n }) node-started
 
 sample-read : (scheduleOf sample-steps .number ≡ 0) × (steps (scheduleOf sample-steps) ≡ sampleActions)
-unfolding sample-steps actionOf decode meaning scheduleOf ofLines readLines firstMalformed stepsOf refusedText acceptedSteps stepOf arrivalOf packedOf encode linesOf lastApart lineThen split inFront fieldsOf equal startsWith numberOf numberForm unsignedForm unsigned negative isDigit numberValue decimal rangedOf
+unfolding sample-steps actionOf decode meaning scheduleOf ofLines readLines firstMalformed stepsOf refusedText acceptedSteps stepOf ownOf arrivalOf packedOf encode linesOf lastApart lineThen split inFront fieldsOf equal startsWith numberOf numberForm unsignedForm unsigned negative isDigit numberValue decimal rangedOf
 sample-read = (refl, refl)
 
 sample-count : (play started sampleActions .accepted ≡ 5) × (play started sampleActions .refusal ≡ 0)
@@ -299,7 +312,8 @@ unfolding play played
 no-steps n h = rw h
 
 pub ramp : All table
-unfolding All Holds table arrival running refusing plain rower closed over world holding fives sender spawner watcher monitorer flying unlinkedLinks linkTwo linkThree linkTwoThree sample started ramp-ops opOf play played step rule ready commit incoming decide numbered ownerBorn signalWaits pairHasRoom numberFree sound shaped viewSound view behavioursOf code setOf has bitsOf standing runningSound rowSound receives fits runs runsLive runsOp closes arrives exits downs operand instruction operandInRange inRange hasClauses targetsFree wellPlaced codeSound isNumber fitsInt sameValue messages signals changed joined left popped emptied register withRegister moved advanced trapped linksTo linked unlinked watchesOver watching unwatching watched unwatched withPeer withoutPeer lowestPeer ended gone kindsOf
+unfolding All Holds table arrival running refusing plain rower closed over world holding fives sender spawner watcher monitorer waiter flying unlinkedLinks linkTwo linkThree linkTwoThree sample started ramp-ops opOf play played step rule ready commit incoming decide numbered ownerBorn signalWaits pairHasRoom numberFree sound shaped viewSound view behavioursOf code setOf has bitsOf standing runningSound rowSound receives fits runs runsLive runsOp closes expires expiresLive atAfter arrives exits downs operand instruction operandInRange inRange hasClauses targetsFree wellPlaced codeSound isNumber fitsInt sameValue messages signals changed joined left popped emptied register withRegister moved advanced trapped linksTo linked unlinked watchesOver watching unwatching watched unwatched withPeer withoutPeer lowestPeer ended gone kindsOf
 ramp =
-    let others : All (drop 16 table) = (refl, (refl, (refl, (refl, (refl, (refl, (refl, (refl, (refl, (refl, (refl, (refl, (refl, (refl, (refl, (refl, (refl, (refl, (refl, tt))))))))))))))))))) in
+    let last : All (drop 35 table) = (refl, (refl, (refl, (refl, (refl, tt))))) in
+    let others : All (drop 16 table) = (refl, (refl, (refl, (refl, (refl, (refl, (refl, (refl, (refl, (refl, (refl, (refl, (refl, (refl, (refl, (refl, (refl, (refl, (refl, last))))))))))))))))))) in
     (no-steps, (sample-program, (refl, (refl, (refl, (refl, (refl, (refl, (refl, (refl, (refl, (refl, (refl, (refl, (refl, (refl, others))))))))))))))))

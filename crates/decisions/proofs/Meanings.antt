@@ -1,7 +1,7 @@
 -- What a record of this crate tells is the rules' answer, whatever the messages of the mailbox are: for a run where the op and the length are those
 -- of its code, and for an arrival where the count is that of its mailbox. Assumes nothing.
---   run-means, arrival-means   the answer that the record of a run tells is `runs`, of an arrival `arrives`
---   run-only                   a run that asks for a search of the mailbox asks for nothing else
+--   run-means, arrival-means, timeout-means   the answer that the record of a run tells is `runs`, of an arrival `arrives`, of a timeout `expires`
+--   run-only, timeout-only     a run or a timeout that asks for a search of the mailbox asks for nothing else
 --   arrival-quiet              an arrival asks for none, and brings nobody to life
 use mathlib.Core.Bool.{Bool, true, false, cond, not, _&&_, false≢true}
 use mathlib.Core.List.{List, [], _∷_}
@@ -9,10 +9,10 @@ use mathlib.Core.Option.{Option, none, some}
 use mathlib.Core.Path.{_≡_, refl, sym, _∙_, ap}
 use Prim.Native.Nat.{ℕ, zero, suc, _+_, _<_, min}
 use native.Mathlib.Omega.{arith}
-use borrow.Author.Tests.{leb-false}
+use borrow.Author.Tests.{leb-false, lt-leb, ltb-true, ltb-false, eqb-true}
 use lib.Dec.{eqb, leb, ltb}
 use lib.IntN.{ℤ, _+ℤ_}
-use lib.ListN.{length, getD, length-replicate}
+use lib.ListN.{length, getD, length-replicate, List·getD-eq-default}
 use lib.Signed.{ltZ}
 use Rattle.node.specs.declared.Message.{Message}
 use Rattle.node.specs.declared.Op.{Op}
@@ -26,17 +26,20 @@ use Rattle.node.specs.declared.Value.{Value}
 use Rattle.node.specs.declared.Value.the-variants.{Int}
 use Rattle.node.specs.Mailboxes.{noMessage}
 use Rattle.node.specs.Nodes.{noOp}
+use Rattle.node.specs.Ops.{recvOp}
 use Rattle.node.specs.Processes.{register, advanced, linksTo, linked, unlinked, watchesOver, watching, unwatching}
 use Rattle.node.specs.Sets.{lowestPeer}
 use Rattle.node.specs.Values.{normal, kill, badarg, badarith, pid, fitsInt, sameValue}
-use Rattle.rules.specs.Answers.{Answer, refused, done, need, mailboxFull, noFit}
+use Rattle.rules.specs.Answers.{Answer, refused, done, need, mailboxFull, noFit, noTimeout}
 use Rattle.rules.specs.Arrive.{joinsWith, exits, downs, takes, isMonitor, answers, arrivesIn, arrives}
 use Rattle.rules.specs.Effects.{State, joining, Effect, becomes, ends, sends}
 use Rattle.rules.specs.Receive.{receives}
 use Rattle.rules.specs.Run.{setsRegister, jumpsIf, integerIn, onIntegers, setsSum, adds, compares, processIn, toProcess, sendsTo, toOther, stops, opTable, runsOp, closesTo, closes, runsLive}
 use Rattle.rules.specs.Run.{runsIn, runs}
+use Rattle.rules.specs.Steps.{isUnborn}
+use Rattle.rules.specs.Timeout.{atAfter, isLive, expiresLive, expiresIn, expires}
 use Rattle.decisions.proofs.Laws.{ops-length, ops-op}
-use Rattle.decisions.specs.Answers.{stateOf, unread, refusing, searching, decisionOf, codeAt, ran, arrived, answerOf}
+use Rattle.decisions.specs.Answers.{stateOf, unread, refusing, searching, decisionOf, codeAt, ran, arrived, awaits, expired, answerOf}
 use Rattle.decisions.specs.declared.Decision.{Decision}
 
 -- the code has len ops, and o stands at place t where t is not its end
@@ -50,7 +53,7 @@ module _ (code : List Op) (i : ℕ) (p : Process) (m : List Message) where
   st = stateOf p m
 
   abbrev heard : ℕ → Answer Effect → Answer Effect
-  heard k a = answerOf code i st (decisionOf (unread p k) a)
+  heard k a = answerOf false code i st (decisionOf (unread p k) a)
 
   heard-cond : (k : ℕ) (b : Bool) (x y : Answer Effect) {v w : Answer Effect} → heard k x ≡ v → heard k y ≡ w → heard k (cond b x y) ≡ cond b v w
   heard-cond k true x y e f = e
@@ -139,7 +142,7 @@ module _ (code : List Op) (i : ℕ) (p : Process) (m : List Message) where
                               refl,
                               (
                                 refl,  -- clause, jump, same
-                                (runs-compares (o .target) r s, (refl, (runs-other r (watching p) Monitor, (runs-other r (unwatching p) Demonitor, tt)))),
+                                (runs-compares (o .target) r s, (refl, (runs-other r (watching p) Monitor, (runs-other r (unwatching p) Demonitor, (refl, tt))))),
                               ),
                             ),
                           ),
@@ -153,7 +156,7 @@ module _ (code : List Op) (i : ℕ) (p : Process) (m : List Message) where
           ),
         ),
       ),
-    )  -- less, stop, monitor, demonitor
+    )  -- less, stop, monitor, demonitor, after
 
     runs-op : Runs (runsOp ops i bare o) (runsOp code i st o)
     unfolding runsOp
@@ -239,17 +242,79 @@ module _ (code : List Op) (i : ℕ) (p : Process) (m : List Message) where
     heard-arrives Closing x = heard-answers x
     heard-arrives Gone x = heard-answers x
 
+-- a timeout of a live process, and one at no recv
+expires-live : (code : List Op) (st : State) → st .process .stage ≡ Live → expires code st ≡ expiresLive code st
+unfolding expires
+expires-live code st e = ap (λ (s : Stage). expiresIn s code st) e
+
+not-at : (code : List Op) (st : State) → eqb (getD code (st .process .place) noOp .number) recvOp ≡ false → expiresLive code st ≡ refused noTimeout
+unfolding expiresLive atAfter
+not-at code st e = rw e
+
+not-awaiting : (code : List Op) (p : Process) (len : ℕ) (o : Op) (m : List Message) → isUnborn (p .stage) ≡ false → (p .stage ≡ Live → At code len (p .place) o) → awaits p len o ≡ false →
+    expires code (stateOf p m) ≡ refused noTimeout
+unfolding awaits expires
+not-awaiting code p len o m born stands h = go (p .stage) born stands (ltb (p .place) len) refl (eqb (o .number) recvOp) refl h
+  where
+    go : (s : Stage) → isUnborn s ≡ false → (s ≡ Live → At code len (p .place) o) → (a : Bool) → ltb (p .place) len ≡ a → (b : Bool) → eqb (o .number) recvOp ≡ b → (isLive s && a && b) ≡ false →
+        expiresIn s code (stateOf p m) ≡ refused noTimeout
+    go Unborn u st a e b f h = absurd (false≢true (sym u))
+    go Live u st true e true f h = absurd (false≢true (sym h))
+    go Live u st true e false f h =
+        let at : getD code (p .place) noOp ≡ o = st refl .op (rw (st refl .size) (ltb-true (p .place) len e)) in
+        not-at code (stateOf p m) (rw (at, f))
+    go Live u st false e b f h =
+        let past : getD code (p .place) noOp ≡ noOp = List·getD-eq-default code noOp {n = p .place} (rw (st refl .size) (ltb-false (p .place) len e)) in
+        not-at code (stateOf p m) (rw past)
+    go Closing u st a e b f h = refl
+    go Gone u st a e b f h = refl
+
 -- a run whose length and op are those of its code
 pub run-means : (code : List Op) (i : ProcessNumber) (p : Process) (len : ℕ) (o : Op) (m : List Message) → (p .stage ≡ Live → At code len (p .place) o) →
-    answerOf code (i .0) (stateOf p m) (ran i p len o) ≡ runs code (i .0) (stateOf p m)
+    answerOf false code (i .0) (stateOf p m) (ran i p len o) ≡ runs code (i .0) (stateOf p m)
 unfolding ran runs
 run-means code i p len o m stands = runs-in code (i .0) p m len o (p .stage) stands
 
 -- an arrival at a mailbox that has as many messages as were told
 pub arrival-means : (code : List Op) (i j : ProcessNumber) (p : Process) (m : List Message) (x : Signal) →
-    answerOf code (i .0) (stateOf p m) (arrived i j p (length m) x) ≡ arrives (i .0) (j .0) (stateOf p m) x
+    answerOf false code (i .0) (stateOf p m) (arrived i j p (length m) x) ≡ arrives (i .0) (j .0) (stateOf p m) x
 unfolding arrived arrives
 arrival-means code i j p m x = heard-arrives code (i .0) p m (j .0) (p .stage) x
+
+-- a process at a recv
+pub record Awaiting (p : Process) (len : ℕ) (o : Op) : Type 0 where
+  pub live : p .stage ≡ Live
+  pub inside : p .place < len
+  pub recv : o .number ≡ recvOp
+
+awaiting : (p : Process) (len : ℕ) (o : Op) → awaits p len o ≡ true → Awaiting p len o
+unfolding awaits
+awaiting p len o h = go (p .stage) refl (ltb (p .place) len) refl (eqb (o .number) recvOp) refl h
+  where
+    go : (s : Stage) → p .stage ≡ s → (a : Bool) → ltb (p .place) len ≡ a → (b : Bool) → eqb (o .number) recvOp ≡ b → (isLive s && a && b) ≡ true → Awaiting p len o
+    go Unborn q a e b f h = absurd (false≢true h)
+    go Live q true e true f h = record { live = q; inside = ltb-true (p .place) len e; recv = eqb-true (o .number) recvOp f }
+    go Live q true e false f h = absurd (false≢true h)
+    go Live q false e b f h = absurd (false≢true h)
+    go Closing q a e b f h = absurd (false≢true h)
+    go Gone q a e b f h = absurd (false≢true h)
+
+-- its run asks for a search of the mailbox
+run-searches : (i : ProcessNumber) (p : Process) (len : ℕ) (o : Op) → Awaiting p len o → ran i p len o ≡ searching p
+unfolding ran runs runsLive runsOp receives
+run-searches i p len o w =
+    ap (λ (s : Stage). decisionOf (unread p 0) (runsIn s (codeAt len (p .place) o) (i .0) (unread p 0))) (w .live)
+    ∙ rw (ops-length p len o, lt-leb len (p .place) (w .inside), ops-op p len o (w .inside), w .recv)
+
+-- a timeout of a born process whose length and op are those of its code
+pub timeout-means : (code : List Op) (i : ProcessNumber) (p : Process) (len : ℕ) (o : Op) (m : List Message) → isUnborn (p .stage) ≡ false → (p .stage ≡ Live → At code len (p .place) o) →
+    answerOf true code (i .0) (stateOf p m) (expired i p len o) ≡ expires code (stateOf p m)
+unfolding expired
+timeout-means code i p len o m born stands = go (awaits p len o) refl
+  where
+    go : (b : Bool) → awaits p len o ≡ b → answerOf true code (i .0) (stateOf p m) (cond b (ran i p len o) (refusing p noTimeout)) ≡ expires code (stateOf p m)
+    go true e = let w = awaiting p len o e in ap (answerOf true code (i .0) (stateOf p m)) (run-searches i p len o w) ∙ sym (expires-live code (stateOf p m) (w .live))
+    go false e = sym (not-awaiting code p len o m born stands e)
 
 -- ---- a decision that searches the mailbox does nothing else
 
@@ -267,6 +332,15 @@ only-searching st (done x) h = absurd (false≢true h)
 pub run-only : (i : ProcessNumber) (p : Process) (len : ℕ) (o : Op) → ran i p len o .receives ≡ true → Only (ran i p len o)
 unfolding ran
 run-only i p len o h = only-searching (unread p 0) (runs (codeAt len (p .place) o) (i .0) (unread p 0)) h
+
+-- a timeout that does is of a live process at a recv
+pub timeout-only : (i : ProcessNumber) (p : Process) (len : ℕ) (o : Op) → expired i p len o .receives ≡ true → Only (expired i p len o) × Awaiting p len o
+unfolding expired
+timeout-only i p len o h = go (awaits p len o) refl h
+  where
+    go : (b : Bool) → awaits p len o ≡ b → (cond b (ran i p len o) (refusing p noTimeout)) .receives ≡ true → Only (cond b (ran i p len o) (refusing p noTimeout)) × Awaiting p len o
+    go true e h = (run-only i p len o h, awaiting p len o e)
+    go false e h = absurd (false≢true h)
 
 -- ---- an arrival searches no mailbox and brings nobody to life
 

@@ -1,25 +1,29 @@
-// The local decision of a step: what a process does at a run or at an arrival, from small values alone.
+// The local decision of a step: what a process does at a run, at an arrival or at a timeout, from small values alone.
 ghost use mathlib.Core.Path.{_≡_};
 ghost use mathlib.Core.Bool.{false, not, _&&_};
 ghost use Prim.Native.Nat.{ℕ};
-ghost use lib.Dec.{eqb};
+ghost use lib.Dec.{eqb, ltb};
 ghost use lib.IntN.{_+ℤ_};
 ghost use Rattle.node.specs.declared.Signal.the-variants.{Msg, Exit, Link, Unlink, Monitor, Demonitor};
 ghost use Rattle.node.specs.Processes.{register, moved, advanced, trapped, linked, unlinked, watching, unwatching, ended};
 ghost use Rattle.node.specs.Sets.{lowestPeer};
 ghost use Rattle.node.specs.Values.{pid, normal, kill, badarg, sameValue};
+ghost use Rattle.node.specs.Ops.{recvOp};
 ghost use Rattle.rules.specs.Effects.{becomes, ends};
 ghost use Rattle.rules.specs.Run.{setsRegister, jumpsIf, integerIn, setsSum, adds, compares, sendsTo, toOther, spawns, closesTo, closes, runsLive};
 ghost use Rattle.rules.specs.Arrive.{joinsWith, received, exits, downs, takes, isMonitor, answers};
 ghost use Rattle.rules.specs.Steps.{isUnborn};
 ghost use Rattle.decisions.specs.Answers.{refusing, becoming, searching, sendingTo, says, codeAt, namedBy};
-ghost use Rattle.decisions.specs.Answers.{ranOp, ran, arrived, sumOf, integersOf};
-ghost use Rattle.decisions.specs.Decided.{decidedOf, pairRefusal, birthRefusal};
+ghost use Rattle.decisions.specs.Answers.{ranOp, ran, arrived, awaits, sumOf, integersOf};
+ghost use Rattle.decisions.specs.Decided.{decidedOf, pairRefusal, birthRefusal, timeoutRefusal};
 use actions::Decoded;
+use node::AFTER;
 use node::BAD_NUMBER;
 use node::BehaviourNumber;
 use node::MAILBOX_FULL;
 use node::Message;
+use node::NO_FIT;
+use node::NO_TIMEOUT;
 use node::NONE_IN_FLIGHT;
 use node::NOT_UNBORN;
 use node::OWNER_GONE;
@@ -28,6 +32,7 @@ use node::Op;
 use node::PAIR_FULL;
 use node::Process;
 use node::ProcessNumber;
+use node::RECV;
 use node::Signal;
 use node::Stage;
 use node::Value;
@@ -38,7 +43,7 @@ use node::same_value;
 pub struct Decision {
     pub refusal: u8,
     pub process: Process,
-    // The mailbox is searched, by the clauses behind the op.
+    // The mailbox is searched, by the clauses behind the op: a run takes the first fit, a timeout needs that there is none.
     pub receives: bool,
     pub joins: bool,
     pub message: Message,
@@ -77,6 +82,12 @@ pub fn decide(
         let j = s.from;
         return arrive(i, j, p, waiting, x);
     }
+    // A timeout at a recv goes by the run's way to the search: with a way of its own `play` takes 5 % more instructions.
+    if s.expires {
+        if !awaits(p, len, op) {
+            return Decision::refuses(p, NO_TIMEOUT);
+        }
+    }
     run(i, p, len, op)
 }
 
@@ -104,6 +115,46 @@ pub fn birth_refusal(refusal: u8, old: Process) -> u8
         return 0;
     }
     NOT_UNBORN
+}
+
+// 28: the refusal of a timeout at the recv at `place` of a code of len ops, where the search of the mailbox told `refusal` and `behind` is
+// what stands behind its clauses, if that is within the code.
+pub fn timeout_refusal(refusal: u8, place: u8, clauses: u8, len: u8, behind: Op) -> u8
+    ensures { λ r. ⌜ r ≡ timeoutRefusal refusal place clauses len behind ⌝ }
+{
+    if refusal != NO_FIT {
+        return NO_TIMEOUT;
+    }
+    let at = (place as u16) + 1 + (clauses as u16);
+    if (len as u16) <= at {
+        return NO_TIMEOUT;
+    }
+    if behind.number != AFTER {
+        return NO_TIMEOUT;
+    }
+    0
+}
+
+// Whether a process, whose code has len ops and which is at op, is live at a recv.
+fn awaits(p: Process, len: u8, op: Op) -> bool
+    ensures { λ b. ⌜ b ≡ awaits p len op ⌝ }
+{
+    let stage = p.stage;
+    match stage {
+        Stage::Unborn => false,
+        Stage::Live => awaits_live(p, len, op),
+        Stage::Closing => false,
+        Stage::Gone => false,
+    }
+}
+
+fn awaits_live(p: Process, len: u8, op: Op) -> bool
+    ensures { λ b. ⌜ b ≡ (ltb (p .place) len && eqb (op .number) recvOp) ⌝ }
+{
+    if len <= p.place {
+        return false;
+    }
+    op.number == RECV
 }
 
 // A run of process i, whose code has len ops and which is at op.
@@ -135,14 +186,15 @@ pub fn run_op(i: ProcessNumber, p: Process, op: Op) -> Decision
         7 => run_unlink(i, p, op),
         8 => run_trap(p, op),
         9 => run_spawn(p, op),
-        10 => run_recv(p),
-        11 => run_clause(p),
+        10 => Decision::searches(p),
+        11 => run_part(p),
         12 => run_jump(p, op),
         13 => run_same(p, op),
         14 => run_less(p, op),
         15 => run_stop(p, op),
         16 => run_monitor(i, p, op),
         17 => run_demonitor(i, p, op),
+        18 => run_part(p),
         _ => run_stop(p, op),
     }
 }
@@ -184,6 +236,25 @@ impl Decision {
         ensures { λ e. ⌜ e ≡ becoming p ⌝ }
     {
         Decision::refuses(p, 0)
+    }
+
+    // What is decided is left to a search of the mailbox.
+    fn searches(p: Process) -> Decision
+        ensures { λ e. ⌜ e ≡ searching p ⌝ }
+    {
+        Decision {
+            refusal: 0,
+            process: p,
+            receives: true,
+            joins: false,
+            message: Message::Plain(Value::ZERO),
+            sends: false,
+            to: ProcessNumber(0),
+            signal: Signal::Link,
+            spawns: false,
+            number: ProcessNumber(0),
+            behaviour: BehaviourNumber(0),
+        }
     }
 
     fn sends(p: Process, j: ProcessNumber, x: Signal) -> Decision
@@ -416,26 +487,8 @@ fn run_spawn(p: Process, op: Op) -> Decision
     }
 }
 
-// The search itself needs the mailbox and the clauses, so a recv only says that it is due.
-fn run_recv(p: Process) -> Decision
-    ensures { λ e. ⌜ e ≡ searching p ⌝ }
-{
-    Decision {
-        refusal: 0,
-        process: p,
-        receives: true,
-        joins: false,
-        message: Message::Plain(Value::ZERO),
-        sends: false,
-        to: ProcessNumber(0),
-        signal: Signal::Link,
-        spawns: false,
-        number: ProcessNumber(0),
-        behaviour: BehaviourNumber(0),
-    }
-}
-
-fn run_clause(p: Process) -> Decision
+// A clause or an `after`, which no place of a sound node is on.
+fn run_part(p: Process) -> Decision
     ensures { λ e. ⌜ e ≡ says p 0 (λ st. becomes st (advanced p)) ⌝ }
 {
     Decision::becomes(p.advanced())

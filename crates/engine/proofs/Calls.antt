@@ -65,12 +65,12 @@ step-31 n a h = rw h
 abbrev possibleAction : ℕ → Action
 possibleAction k = meaning (possibleStep k)
 
-possible-made : map possibleAction (rising 0 272) ≡ possible
+possible-made : map possibleAction (rising 0 288) ≡ possible
 unfolding possible possibleStep meaning
 possible-made = refl
 
-possible-at : (k : ℕ) → k < 272 → getD possible k (run 0) ≡ possibleAction k
-possible-at k h = let e : 0 + k ≡ k = omega arith in ap (λ (l : List Action). getD l k (run 0)) (sym possible-made) ∙ map-rising-at possibleAction 0 272 k (run 0) h ∙ ap possibleAction e
+possible-at : (k : ℕ) → k < 288 → getD possible k (run 0) ≡ possibleAction k
+possible-at k h = let e : 0 + k ≡ k = omega arith in ap (λ (l : List Action). getD l k (run 0)) (sym possible-made) ∙ map-rising-at possibleAction 0 288 k (run 0) h ∙ ap possibleAction e
 
 -- the numbers of the possible steps
 numbers-made : map actionOf possibleNumbers ≡ possible
@@ -80,21 +80,21 @@ numbers-made = refl
 abbrev pub Filled : List ℕ → ℕ → Type 0
 Filled l k = (j : ℕ) → j < k → getD l j 0 ≡ encode (possibleStep j)
 
-module _ (l : List ℕ) (size : length l ≡ 272) where
-  pub filled-more : (k x : ℕ) → k < 272 → x ≡ encode (possibleStep k) → Filled l k → Filled (set l k x) (k + 1)
+module _ (l : List ℕ) (size : length l ≡ 288) where
+  pub filled-more : (k x : ℕ) → k < 288 → x ≡ encode (possibleStep k) → Filled l k → Filled (set l k x) (k + 1)
   filled-more k x h e f j b = go (ℕ-discrete j k)
     where
       go : Dec (j ≡ k) → getD (set l k x) j 0 ≡ encode (possibleStep j)
       go (yes q) = rw q (getD-set-same l k x 0 (rw size h) ∙ e)
       go (no q) = getD-set-other l k j x 0 q ∙ f j (omega arith)
 
-  pub filled-all : (k : ℕ) → 272 ≤ k → Filled l k → l ≡ possibleNumbers
+  pub filled-all : (k : ℕ) → 288 ≤ k → Filled l k → l ≡ possibleNumbers
   unfolding possibleNumbers
   filled-all k h f =
       ext-getD 0 l possibleNumbers (size ∙ refl) (λ j b.
-      let small : j < 272 = rw size at b in
+      let small : j < 288 = rw size at b in
       let z : 0 + j ≡ j = omega arith in
-      f j (omega (arith, small, h)) ∙ ap (λ (i : ℕ). encode (possibleStep i)) (sym z) ∙ sym (map-rising-at (λ i. encode (possibleStep i)) 0 272 j 0 small))
+      f j (omega (arith, small, h)) ∙ ap (λ (i : ℕ). encode (possibleStep i)) (sym z) ∙ sym (map-rising-at (λ i. encode (possibleStep i)) 0 288 j 0 small))
 
 -- the first of a list that is acceptable
 module _ (n : Node) where
@@ -120,19 +120,11 @@ module _ (n : Node) where
     first-possible : firstOf n possible ≡ k
     first-possible = ap (firstOf n) (sym numbers-made) ∙ ap (λ (z : List ℕ). firstOf n (map actionOf z)) (sym all) ∙ sym first
 
-    pub suggests-it : k < 272 → So (acceptable n (meaning (possibleStep k)))
+    pub suggests-it : k < 288 → So (acceptable n (meaning (possibleStep k)))
     suggests-it h = rw (first-possible, possible-at k h) at (first-accepted possible (run 0) (rw (first-possible, possible-count) h))
 
-    pub suggests-none : 272 ≤ k → So (allOf (λ a. not (acceptable n a)) possible)
+    pub suggests-none : 288 ≤ k → So (allOf (λ a. not (acceptable n a)) possible)
     suggests-none h = none-accepted possible (rw (first-possible, possible-count) h)
-
-pub possible-run : (k : ℕ) → k % 17 ≡ 0 → record { kind = 0; owner = record { 0 = k / 17 + 1 }; from = record { 0 = 0 } } ≡ possibleStep k
-unfolding possibleStep
-possible-run k h = rw h
-
-pub possible-arrive : (k : ℕ) → (k % 17 ≡ 0 → ⊥) → record { kind = 1; owner = record { 0 = k / 17 + 1 }; from = record { 0 = k % 17 } } ≡ possibleStep k
-unfolding possibleStep
-possible-arrive k h = rw (ne-eqb (k % 17) 0 h)
 
 -- ---- a step as the code plays it: r is what the play of its number k alone answers
 

@@ -2,13 +2,13 @@
 --   playedOf r      the answer of a play: count, refusal and node
 --   steppedBy n a   the answer of a step of node n: a refusal leaves the node
 --   suggestionOf s  the answer of a suggestion: 31, a step, or none
---   possibleStep k  step k of the 272 possible ones, in the order of `possible`
+--   possibleStep k  step k of the 288 possible ones, in the order of `possible`
 --   firstOf n l     how many steps of l come before the first that node n would accept
 --   possibleNumbers the numbers of all possible steps
 use mathlib.Core.Bool.{cond}
 use mathlib.Core.List.{List, [], _∷_, map}
 use mathlib.Core.Option.{Option, none, some}
-use Prim.Native.Nat.{ℕ, _+_, _/_, _%_}
+use Prim.Native.Nat.{ℕ, _+_, _-_, _/_, _%_}
 use lib.Dec.{eqb}
 use Rattle.actions.specs.Numbers.{encode}
 use Rattle.node.specs.declared.Node.{Node}
@@ -35,13 +35,16 @@ suggestionOf Unsound = refused notSound
 suggestionOf (Next s) = done (some (meaning s))
 suggestionOf Nothing = done none
 
--- by owner, its run, then its arrivals by sender
+-- by owner, its run, its timeout, then its arrivals by sender
+abbrev pub possibleKind : ℕ → ℕ
+possibleKind t = cond (eqb t 0) 0 (cond (eqb t 1) 2 1)
+
 unfoldable pub possibleStep : ℕ → Step
-possibleStep k = record { kind = cond (eqb (k % 17) 0) 0 1; owner = record { 0 = k / 17 + 1 }; from = record { 0 = k % 17 } }
+possibleStep k = record { kind = possibleKind (k % 18); owner = record { 0 = k / 18 + 1 }; from = record { 0 = k % 18 - 1 } }
 
 abbrev pub firstOf : Node → List Action → ℕ
 firstOf n [] = 0
 firstOf n (a ∷ l) = cond (acceptable n a) 0 (firstOf n l + 1)
 
 unfoldable pub possibleNumbers : List ℕ
-possibleNumbers = map (λ k. encode (possibleStep k)) (rising 0 272)
+possibleNumbers = map (λ k. encode (possibleStep k)) (rising 0 288)

@@ -8,7 +8,7 @@ ghost use Rattle.actions.specs.Numbers.{actionOf};
 ghost use Rattle.rules.specs.Nodes.{Sound};
 ghost use Rattle.rules.specs.Steps.{meaning, step, play, played};
 ghost use Rattle.rules.specs.Suggest.{Suggests};
-ghost use Rattle.engine.specs.Answers.{playedOf, steppedBy, suggestionOf, possibleStep, possibleNumbers, firstOf};
+ghost use Rattle.engine.specs.Answers.{playedOf, steppedBy, suggestionOf, possibleKind, possibleStep, possibleNumbers, firstOf};
 use actions::behaviour_index;
 use actions::decode;
 use actions::encode;
@@ -18,6 +18,7 @@ use actions::row_index;
 use decisions::birth_refusal;
 use decisions::decide;
 use decisions::pair_refusal;
+use decisions::timeout_refusal;
 use node::Cell;
 use node::NO_FIT;
 use node::NOT_SOUND;
@@ -85,7 +86,7 @@ pub fn play(n: Node, numbers: &[u32]) -> Played
     ended(0, NOT_SOUND, n)
 }
 
-// A step that the node would accept: by owner, its run, then its arrivals by sender.
+// A step that the node would accept: by owner, its run, its timeout, then its arrivals by sender.
 pub fn suggest(n: Node) -> Suggestion
     ensures { λ r. ⌜ Suggests n (suggestionOf r) ⌝ }
 {
@@ -95,7 +96,7 @@ pub fn suggest(n: Node) -> Suggestion
     Suggestion::Unsound
 }
 
-// The first of the 272 possible steps that would be accepted.
+// The first of the 288 possible steps that would be accepted.
 fn first_accepted(n: Node) -> Suggestion
     requires { ⌜ Sound n ⌝ }
     ensures { λ r. ⌜ Suggests n (suggestionOf r) ⌝ }
@@ -103,19 +104,19 @@ fn first_accepted(n: Node) -> Suggestion
     let numbers = possible_numbers();
     let r = core(n, &numbers, true);
     let k = r.accepted;
-    if k < 272 {
+    if k < 288 {
         return Suggestion::Next(possible(k as u16));
     }
     Suggestion::Nothing
 }
 
 // The numbers of all possible steps, in their order.
-fn possible_numbers() -> [u32; 272]
+fn possible_numbers() -> [u32; 288]
     ensures { λ r. ⌜ r ≡ possibleNumbers ⌝ }
 {
-    let mut numbers = [0u32; 272];
+    let mut numbers = [0u32; 288];
     let mut k: usize = 0;
-    while k < 272 {
+    while k < 288 {
         let s = possible(k as u16);
         numbers[k] = encode(s);
         k += 1;
@@ -123,25 +124,30 @@ fn possible_numbers() -> [u32; 272]
     numbers
 }
 
-// Possible step k: 17 for each owner, its run and an arrival from each process.
+// Possible step k: 18 for each owner, its run, its timeout and an arrival from each process.
 fn possible(k: u16) -> Step
-    requires { ⌜ k < 272 ⌝ }
+    requires { ⌜ k < 288 ⌝ }
     ensures { λ r. ⌜ r ≡ possibleStep k ⌝ }
 {
-    let from = (k % 17) as u8;
-    let owner = ((k / 17) as u8) + 1;
-    if from == 0 {
-        return Step {
-            kind: 0,
-            owner: ProcessNumber(owner),
-            from: ProcessNumber(0),
-        };
-    }
+    let turn = (k % 18) as u8;
+    let owner = ((k / 18) as u8) + 1;
     Step {
-        kind: 1,
+        kind: possible_kind(turn),
         owner: ProcessNumber(owner),
-        from: ProcessNumber(from),
+        from: ProcessNumber(fallen(turn)),
     }
+}
+
+fn possible_kind(turn: u8) -> u8
+    ensures { λ r. ⌜ r ≡ possibleKind turn ⌝ }
+{
+    if turn == 0 {
+        return 0;
+    }
+    if turn == 1 {
+        return 2;
+    }
+    1
 }
 
 fn ended(accepted: usize, refusal: u8, node: Node) -> Played
@@ -239,6 +245,12 @@ fn core(n: Node, numbers: &[u32], looks: bool) -> Played
                 }
                 m += 1;
             }
+            if s.expires {
+                let y = at_most(end, 255);
+                let behind = node.ops[y];
+                next = p.moved(behind.target);
+                refusal = timeout_refusal(refusal, p.place, op.small, node.lens[w], behind);
+            }
         }
         if e.sends {
             let row = row_index(owner, to);
@@ -258,7 +270,7 @@ fn core(n: Node, numbers: &[u32], looks: bool) -> Played
             return ended(t, 0, node);
         }
         node.processes[k] = next;
-        if e.receives {
+        if m < top {
             node.waiting[k] = fallen(waiting);
             while m + 1 < top {
                 let slot = node.slots[m + 1];

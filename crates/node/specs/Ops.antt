@@ -10,9 +10,10 @@
 --   kindsOf n          what the operands of op n are; none where n is no op
 --   operandKind n k    what operand k of op n is
 --   kindsIn x          what operands an op of shape x has
---   recvOp clauseOp    the places of recv and clause in the table
+--   recvOp clauseOp afterOp   the places of recv, clause and after in the table
+--   isPart n           op n is a clause or an `after`
 --   stopOp             the op `stop,0`
-use mathlib.Core.Bool.{Bool}
+use mathlib.Core.Bool.{Bool, _||_}
 use mathlib.Core.List.{List, [], _∷_, map}
 use Prim.Native.Nat.{ℕ}
 use Prim.Native.Char.{code}
@@ -69,6 +70,7 @@ opForms =
     ∷ form "stop" (RegisterR ∷ [])
     ∷ form "monitor" (RegisterR ∷ [])
     ∷ form "demonitor" (RegisterR ∷ [])
+    ∷ form "after" (PlaceT ∷ [])
     ∷ []
 
 abbrev pub opCount : ℕ
@@ -109,6 +111,13 @@ recvOp = 10
 
 abbrev pub clauseOp : ℕ
 clauseOp = 11
+
+abbrev pub afterOp : ℕ
+afterOp = 18
+
+-- a part of a recv, which no process ever stands at
+abbrev pub isPart : ℕ → Bool
+isPart n = eqb n clauseOp || eqb n afterOp
 
 abbrev pub stopOp : Op
 stopOp = record { number = 15; r = 0; s = 0; target = 0; small = 0; value = intZero; process = record { 0 = 0 }; behaviour = record { 0 = 0 } }

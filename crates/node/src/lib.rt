@@ -6,7 +6,7 @@ ghost use Prim.Native.Nat.{_+_, _-_, min};
 ghost use lib.Dec.{leb};
 ghost use lib.ListN.{getD};
 ghost use Rattle.node.specs.declared.OperandKind.the-variants.{NoOperand};
-ghost use Rattle.node.specs.Ops.{kindsIn, kindsOf, operandCounts, operandKind, stopOp};
+ghost use Rattle.node.specs.Ops.{isPart, kindsIn, kindsOf, operandCounts, operandKind, stopOp};
 ghost use Rattle.node.specs.Processes.{unborn, fresh, register, withRegister, withRegisters, moved, advanced, trapped, mailCount};
 ghost use Rattle.node.specs.Processes.{linksTo, linked, unlinked, withLinks, ended, gone, withStage};
 ghost use Rattle.node.specs.Processes.{watchesOver, watching, unwatching, watchedBy, watched, unwatched, withWatches, withWatchers};
@@ -193,7 +193,7 @@ pub struct Node {
     pub cells: [Cell; 1024],
 }
 
-// A step by its kind: 0 is `run owner`, 1 is `arrive owner from from`.
+// A step by its kind: 0 is `run owner`, 1 is `arrive owner from from`, 2 is `timeout owner`.
 pub struct Step {
     pub kind: u8,
     pub owner: ProcessNumber,
@@ -217,6 +217,8 @@ pub const PAIR_FULL: u8 = 26;
 
 pub const NOT_UNBORN: u8 = 27;
 
+pub const NO_TIMEOUT: u8 = 28;
+
 // What the caller is told: the output is shorter than what is to be written, the node is not sound, the schedule has too many steps.
 pub const OUTPUT_SHORT: u8 = 30;
 
@@ -225,11 +227,13 @@ pub const NOT_SOUND: u8 = 31;
 pub const SCHEDULE_TOO_LONG: u8 = 32;
 
 // The number of ops, and the numbers of those that others look for.
-pub const OPS: u8 = 18;
+pub const OPS: u8 = 19;
 
 pub const RECV: u8 = 10;
 
 pub const CLAUSE: u8 = 11;
+
+pub const AFTER: u8 = 18;
 
 // The kinds of a clause: one exact value, every message, then the kinds of messages. The exact value has the first number, so that a new
 // kind moves none.
@@ -251,10 +255,10 @@ pub const DOWN: u8 = 6;
 pub const LAST_KIND: u8 = DOWN;
 
 // How many operands each op has, by its number.
-const OPERANDS: [u8; 18] = [2, 2, 1, 2, 2, 2, 1, 1, 1, 3, 1, 4, 1, 3, 3, 1, 1, 1];
+const OPERANDS: [u8; 19] = [2, 2, 1, 2, 2, 2, 1, 1, 1, 3, 1, 4, 1, 3, 3, 1, 1, 1, 1];
 
 // The shape of each op, by its number.
-const SHAPES: [Shape; 18] = [
+const SHAPES: [Shape; 19] = [
     Shape::RV, // set
     Shape::RS, // copy
     Shape::R, // self
@@ -273,7 +277,18 @@ const SHAPES: [Shape; 18] = [
     Shape::R, // stop
     Shape::R, // monitor
     Shape::R, // demonitor
+    Shape::T, // after
 ];
+
+// Whether an op is a part of a recv, a clause or an `after`: no process stands at one.
+pub fn is_part(op: u8) -> bool
+    ensures { λ r. ⌜ r ≡ isPart op ⌝ }
+{
+    if op == CLAUSE {
+        return true;
+    }
+    op == AFTER
+}
 
 // The number of operands of an op; 0 for a number that is no op.
 pub fn operand_count(op: u8) -> u8

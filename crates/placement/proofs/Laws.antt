@@ -1,5 +1,5 @@
 -- Laws of rule 14 by the ops as they stand in a node, and of the walk that looks for the first op that breaks it. Assumes nothing.
---   placed-recv placed-stray placed-due placed-other   rule 14 of an op, by its number
+--   placed-recv placed-out placed-in   rule 14 of a recv, of another op that stands out of turn, and of one that does not
 --   clauses-few clauses-begin clause-stop clause-more clauses-end   the loop over the clauses of a recv
 --   in-begin in-stop in-more in-end       the loop over the ops of a behaviour
 --   from-stop from-more from-end          the loop over the behaviours
@@ -9,19 +9,19 @@ use mathlib.Core.Path.{_≡_, sym, _∙_, ap}
 use Prim.Native.Nat.{ℕ, _+_, _-_, _*_, _≤_, _<_}
 use native.Mathlib.Numerals.{add-one}
 use native.Mathlib.Omega.{arith}
-use borrow.Author.Tests.{eq-eqb, ne-eqb, lt-ltb, le-leb, lt-leb}
+use borrow.Author.Tests.{eq-eqb, ne-eqb, le-leb, lt-leb}
 use lib.Dec.{eqb}
 use lib.ListN.{length, getD, take, drop, length-take, length-drop, drop-of-length-le}
 use lib.Seq.{drop-cons, getD-take, getD-drop}
 use Rattle.node.specs.declared.Op.{Op}
 use Rattle.node.specs.Lists.{allFrom}
 use Rattle.node.specs.Nodes.{noOp}
-use Rattle.node.specs.Ops.{clauseOp, kindsOf, recvOp}
+use Rattle.node.specs.Ops.{afterOp, clauseOp, kindsOf, recvOp}
 use Rattle.node.proofs.Lists.{all-more, all-stop, all-end, allOf-from}
 use Rattle.rules.specs.Behaviours.{Instruction, due, hasClauses, instruction, isClause, targetsFree, wellPlaced}
 use Rattle.behaviours.specs.Codes.{codeIn, hasTarget}
-use Rattle.behaviours.proofs.Codes.{clause-count, code-at, code-length, on-clause-end, target-to}
-use Rattle.placement.specs.Misplaced.{misplacedIn, misplacedFrom}
+use Rattle.behaviours.proofs.Codes.{clause-count, code-at, code-length, on-part-end, target-to}
+use Rattle.placement.specs.Misplaced.{inTurn, misplacedIn, misplacedFrom}
 
 -- ---- one op
 
@@ -33,26 +33,23 @@ module _ (n : ℕ) (ops : List Op) (k t : ℕ) (h : t < n) {o : Op} (at : o ≡ 
   unfolding hasTarget kindsOf
   recv-free e =
       let none : n ≡ cond (hasTarget (o .number)) (o .target) n = ap (λ (j : ℕ). cond (hasTarget j) (o .target) n) (sym e) in
-      target-to n ops k o n none ∙ ap not (on-clause-end (codeIn n ops k) n (omega (arith, code-length n ops k)))
+      target-to n ops k o n none ∙ ap not (on-part-end (codeIn n ops k) n (omega (arith, code-length n ops k)))
 
   module _ {r : Bool} where
     pub placed-recv : o .number ≡ recvOp → r ≡ hasClauses (o .small) (drop (t + 1) (codeIn n ops k)) → r ≡ wellPlaced (codeIn n ops k) t (getD (codeIn n ops k) t (instruction noOp))
     unfolding wellPlaced instruction
-    placed-recv e p = rw op-is (rw (recv-free e, clause-count o e, eq-eqb (o .number) recvOp e, ap (λ (j : ℕ). eqb j clauseOp) e) (p ∙ sym (and-true _) ∙ sym (and-true _)))
+    placed-recv e p = rw op-is (rw (recv-free e, clause-count o e, eq-eqb (o .number) recvOp e, ap (λ (j : ℕ). eqb j clauseOp) e, ap (λ (j : ℕ). eqb j afterOp) e)
+        (p ∙ sym (and-true _) ∙ sym (and-true _) ∙ sym (and-true _)))
 
-    pub placed-stray : o .number ≡ clauseOp → due 0 (take t (codeIn n ops k)) ≡ 0 → r ≡ false → r ≡ wellPlaced (codeIn n ops k) t (getD (codeIn n ops k) t (instruction noOp))
-    unfolding wellPlaced instruction
-    placed-stray e d p = rw op-is (rw (eq-eqb (o .number) clauseOp e, ap (λ (j : ℕ). eqb j recvOp) e, d) p)
-
-    pub placed-due : o .number ≡ clauseOp → (due 0 (take t (codeIn n ops k)) ≡ 0 → ⊥) → r ≡ targetsFree (codeIn n ops k) (instruction o) → r ≡ wellPlaced (codeIn n ops k) t
+    pub placed-out : (o .number ≡ recvOp → ⊥) → inTurn (o .number) (due 0 (take t (codeIn n ops k))) ≡ false → r ≡ false → r ≡ wellPlaced (codeIn n ops k) t
         (getD (codeIn n ops k) t (instruction noOp))
     unfolding wellPlaced instruction
-    placed-due e d p = rw op-is (rw (eq-eqb (o .number) clauseOp e, ap (λ (j : ℕ). eqb j recvOp) e, lt-ltb 0 (due 0 (take t (codeIn n ops k))) (omega arith)) p)
+    placed-out e d p = rw op-is (rw (ne-eqb (o .number) recvOp e, d) p)
 
-    pub placed-other : (o .number ≡ recvOp → ⊥) → (o .number ≡ clauseOp → ⊥) → r ≡ targetsFree (codeIn n ops k) (instruction o) → r ≡ wellPlaced (codeIn n ops k) t
+    pub placed-in : (o .number ≡ recvOp → ⊥) → inTurn (o .number) (due 0 (take t (codeIn n ops k))) ≡ true → r ≡ targetsFree (codeIn n ops k) (instruction o) → r ≡ wellPlaced (codeIn n ops k) t
         (getD (codeIn n ops k) t (instruction noOp))
     unfolding wellPlaced instruction
-    placed-other e d p = rw op-is (rw (ne-eqb (o .number) recvOp e, ne-eqb (o .number) clauseOp d) p)
+    placed-in e d p = rw op-is (rw (ne-eqb (o .number) recvOp e, d) p)
 
 -- ---- the clauses of a recv
 

@@ -1,14 +1,16 @@
 // Rule 14 of a plan's behaviours, and the line that is told of it.
+use node::AFTER;
 use node::CLAUSE;
 use node::Op;
 use node::RECV;
+use node::is_part;
 ghost use mathlib.Core.Path.{_≡_};
 ghost use Prim.Native.Nat.{_+_, _*_, _<_};
 ghost use lib.ListN.{getD, take, drop};
 ghost use Rattle.node.specs.Nodes.{noOp};
 ghost use Rattle.rules.specs.Behaviours.{due, hasClauses, instruction, targetsFree, wellPlaced};
 ghost use Rattle.behaviours.specs.Codes.{codeIn, codesIn};
-ghost use Rattle.placement.specs.Misplaced.{firstCode, misplacedIn, misplacedFrom};
+ghost use Rattle.placement.specs.Misplaced.{inTurn, firstCode, misplacedIn, misplacedFrom};
 
 // The line of the first op that is not well placed; 0 where there is none. Sound behaviours have none: that is one pass, and the walk
 // below, which copies the ops, is left to plans that are refused.
@@ -60,7 +62,7 @@ fn misplaced_in(len: u8, ops: [Op; 256], k: u8, first: usize) -> usize
     requires { ⌜ first < 65536 ⌝ }
     ensures { λ r. ⌜ r ≡ misplacedIn (codeIn len ops k) 0 first (codeIn len ops k) ⌝ }
 {
-    let mut left: u8 = 0;
+    let mut left: u16 = 0;
     let mut t: u8 = 0;
     while t < len {
         let op = op_of(ops, k, t);
@@ -73,8 +75,8 @@ fn misplaced_in(len: u8, ops: [Op; 256], k: u8, first: usize) -> usize
     0
 }
 
-// The op at place t, where `left` clauses are still due.
-fn well_placed(len: u8, ops: [Op; 256], k: u8, t: u8, left: u8) -> bool
+// The op at place t, where `left` parts of a recv may still stand.
+fn well_placed(len: u8, ops: [Op; 256], k: u8, t: u8, left: u16) -> bool
     requires { ⌜ (t < len) × (left ≡ due 0 (take t (codeIn len ops k))) ⌝ }
     ensures { λ r. ⌜ r ≡ wellPlaced (codeIn len ops k) t (getD (codeIn len ops k) t (instruction noOp)) ⌝ }
 {
@@ -83,13 +85,23 @@ fn well_placed(len: u8, ops: [Op; 256], k: u8, t: u8, left: u8) -> bool
     if number == RECV {
         return has_clauses(len, ops, k, t, op.small);
     }
-    if number == CLAUSE {
-        if left == 0 {
-            return false;
-        }
+    if in_turn(number, left) {
         return lands_free(len, ops, k, op);
     }
-    lands_free(len, ops, k, op)
+    false
+}
+
+// A clause is due where one stands, and an `after` may stand where one does.
+fn in_turn(number: u8, left: u16) -> bool
+    ensures { λ r. ⌜ r ≡ inTurn number left ⌝ }
+{
+    if number == CLAUSE {
+        return 1 < left;
+    }
+    if number == AFTER {
+        return left == 1;
+    }
+    true
 }
 
 // The n ops behind place t are clauses.
@@ -112,7 +124,7 @@ fn has_clauses(len: u8, ops: [Op; 256], k: u8, t: u8, n: u8) -> bool
     true
 }
 
-// An op leads to no clause.
+// An op leads to no part of a recv.
 fn lands_free(len: u8, ops: [Op; 256], k: u8, op: Op) -> bool
     ensures { λ r. ⌜ r ≡ targetsFree (codeIn len ops k) (instruction op) ⌝ }
 {
@@ -121,5 +133,5 @@ fn lands_free(len: u8, ops: [Op; 256], k: u8, op: Op) -> bool
         return true;
     }
     let there = op_of(ops, k, to);
-    there.number != CLAUSE
+    !is_part(there.number)
 }

@@ -25,7 +25,7 @@ ghost use Rattle.plan_line.specs.Lines.{headerTold, countTold, opTold, s
 const NOT_RISING: u8 = 13;
 
 // The words of the ops, in their order, as `words::word_code` gives them.
-const OP_WORDS: [u64; 18] = [
+const OP_WORDS: [u64; 19] = [
     0xd0b3, // set
     0x1c_c1e3, // copy
     0x13_30b3, // self
@@ -44,6 +44,7 @@ const OP_WORDS: [u64; 18] = [
     0x18_3e93, // stop
     0xc_9f44_b9ed, // monitor
     0x327d_12e7_b4a4, // demonitor
+    0x322_d0c1, // after
 ];
 
 // The words of the clause kinds, in their order.

@@ -1,5 +1,5 @@
 -- A test over a list, and the proposition that it stands for; for elements of any type. Assumes nothing.
-use mathlib.Core.Bool.{Bool, So, _&&_, and-eq-true-iff}
+use mathlib.Core.Bool.{Bool, true, false, So, _&&_, _||_, and-eq-true-iff}
 use mathlib.Core.List.{List, [], _∷_, _++_, map, flatMap}
 use mathlib.Core.Path.{_≡_, refl, _∙_, ap}
 use Prim.Native.Nat.{ℕ, zero, suc, _+_, _-_, _≤_, _<_}
@@ -14,6 +14,11 @@ both {a} {b} h k = and-eq-true-iff a b .1 (h, k)
 
 pub parts : (a b : Bool) → So (a && b) → So a × So b
 parts a b h = and-eq-true-iff a b .0 h
+
+-- where not one of two holds, the first does not
+pub or-left : (a b : Bool) → (a || b) ≡ false → a ≡ false
+or-left true b h = h
+or-left false b h = refl
 
 module _ {A : Type 0} (f : ℕ → A → Bool) (d : A) where
   pub allFrom-of : (i : ℕ) (l : List A) → ((k : ℕ) → k < length l → So (f (i + k) (getD l k d))) → So (allFrom f i l)

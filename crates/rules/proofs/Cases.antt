@@ -27,12 +27,13 @@ use Rattle.node.specs.Processes.{moved, advanced, ended, linksTo, unlinked, wat
 use Rattle.node.specs.Sets.{lowestPeer}
 use Rattle.node.specs.Values.{normal, kill, killed, badarg, badarith, noproc, pid, isNumber, fitsInt, sameValue}
 use Rattle.node.proofs.Sets.{lowest-number}
-use Rattle.rules.specs.Answers.{Answer, refused, done, need, mailboxFull, noFit, ownerUnborn, ownerGone}
+use Rattle.rules.specs.Answers.{Answer, refused, done, need, mailboxFull, noFit, ownerUnborn, ownerGone, noTimeout}
 use Rattle.rules.specs.Arrive.{joinsWith, received, notes, exits, downs, takes, isMonitor, answers, arrivesIn, arrives}
 use Rattle.rules.specs.Effects.{State, Effect, joining, becomes, ends, sends}
-use Rattle.rules.specs.Receive.{Fit, search, receivesFit, receives}
+use Rattle.rules.specs.Receive.{Fit, search, receivesFit, firstFit, receives}
 use Rattle.rules.specs.Run.{setsRegister, jumpsIf, integerIn, onIntegers, setsSum, adds, compares, processIn, toProcess, sendsTo, toOther, runsOp, closesTo, closes, runsLive, runsIn, runs}
 use Rattle.rules.specs.Steps.{isUnborn}
+use Rattle.rules.specs.Timeout.{behindClauses, atAfter, expiresIf, expiresLive, expiresIn, expires}
 use Rattle.rules.proofs.All.{both}
 
 -- a value that names process j is its number
@@ -124,6 +125,31 @@ module _ (st : State) (P : Answer Effect → Type 0) where
       go Live q = live q (leb (length code) (st .process .place)) refl
       go Closing q = c q
       go Gone q = g q
+
+  -- ---- a timeout
+
+  pub expires-any : (code : List Op) →
+      (st .process .stage ≡ Unborn → P (refused ownerUnborn)) →
+      P (refused noTimeout) →
+      (st .process .stage ≡ Live → atAfter code (st .process .place) ≡ true → P (becomes st (moved (st .process) (behindClauses code (st .process .place) .target)))) →
+      P (expires code st)
+  unfolding expires expiresLive
+  expires-any code u r m = go (st .process .stage) refl
+    where
+      fit : st .process .stage ≡ Live → atAfter code (st .process .place) ≡ true → (f : Option Fit) → P (expiresIf st (behindClauses code (st .process .place)) f)
+      fit q h none = m q h
+      fit q h (some f) = r
+
+      late : st .process .stage ≡ Live → (b : Bool) → atAfter code (st .process .place) ≡ b → (f : Option Fit)
+          → P (need b noTimeout (expiresIf st (behindClauses code (st .process .place)) f))
+      late q true h f = fit q h f
+      late q false h f = r
+
+      go : (s : Stage) → st .process .stage ≡ s → P (expiresIn s code st)
+      go Unborn q = u q
+      go Live q = late q (atAfter code (st .process .place)) refl (firstFit code st (getD code (st .process .place) noOp))
+      go Closing q = r
+      go Gone q = r
 
   -- ---- an arrival
 

@@ -31,7 +31,8 @@ use Rattle.rules.specs.Effects.{MailChange, unchanged, joining, leaving,
 use Rattle.rules.specs.Nodes.{Sound, sound, shaped, viewSound, view, behavioursOf, code, process, mailbox, row, standing, standingSound, signalSound, rowSound}
 use Rattle.rules.specs.Arrive.{arrives}
 use Rattle.rules.specs.Run.{runs}
-use Rattle.rules.specs.Steps.{Action, run, arrive, owner, withArrival, withSending, withMail, withoutMail, withBirth, commit, numbered, signalWaits, pairHasRoom, incoming, decide}
+use Rattle.rules.specs.Steps.{Action, run, arrive, timeout, owner, withArrival, withSending, withMail, withoutMail, withBirth, commit, numbered, signalWaits, pairHasRoom, incoming, decide}
+use Rattle.rules.specs.Timeout.{expires}
 use Rattle.rules.specs.Steps.{step, state, playsOn, played, play}
 use Rattle.node.specs.Values.{numbers, isNumber, fitsInt}
 use Rattle.rules.proofs.Accepted.{Act, step-goes}
@@ -39,6 +40,7 @@ use Rattle.rules.proofs.All.{both, parts, allOf-any, allOf-join, made-a
 use Rattle.rules.proofs.Arrivals.{arrives-good}
 use Rattle.rules.proofs.Keeps.{SentOk, BornOk, MailOk, Keeps, Good}
 use Rattle.rules.proofs.Runs.{runs-good}
+use Rattle.rules.proofs.Timeouts.{expires-good}
 use Rattle.rules.proofs.Records.{number-bounds, messages-joined, messages-left, messages-emptied, signals-joined, signals-popped}
 use Rattle.rules.proofs.Shape.{SizedMail, SizedRows, Sized, sized-of, of-sized, mail-room, row-room, mail-sized, arrival-sized, sized-kept}
 
@@ -169,11 +171,13 @@ changed-ok f keeps s z l m ok a b h j i c d = go (ℕ-discrete (pair j i) (pair 
 pub owner-number : (a : Action) → So (numbered a) → So (isNumber (owner a))
 unfolding numbered
 owner-number (run i) h = h
+owner-number (timeout i) h = h
 owner-number (arrive i j) h = parts (isNumber i) (isNumber j) h .0
 
 arrival-ok : (n : Node) (a : Action) → Sized n → RowsOk (flightShelf n) → So (numbered a) → So (signalWaits n a) → RowsOk (withArrival (flightShelf n) a)
 unfolding numbered signalWaits
 arrival-ok n (run i) z ok h g = ok
+arrival-ok n (timeout i) z ok h g = ok
 arrival-ok n (arrive i j) z ok h g =
     let w = parts (isNumber i) (isNumber j) h in
     let s = flightShelf n in
@@ -185,6 +189,7 @@ arrival-ok n (arrive i j) z ok h g =
 pub arrival-few : (s : Shelf Cell) → SizedRows s → (a : Action) → So (numbered a) → (j i : ℕ) → length (rowIn (withArrival s a) j i) ≤ length (rowIn s j i)
 unfolding numbered
 arrival-few s z (run m) h j i = omega arith
+arrival-few s z (timeout m) h j i = omega arith
 arrival-few s z (arrive m l) h j i = go (ℕ-discrete (pair j i) (pair l m))
   where
     go : Dec (pair j i ≡ pair l m) → length (rowIn (changed 4 (popped noSignal) (pair l m) s) j i) ≤ length (rowIn s j i)
@@ -284,6 +289,10 @@ unfolding decide numbered
 decided-keeps n (run i) e p m w d =
     kept-of (runs (code n (process n i .behaviour .0)) i (state n i))
     (runs-good (code n (process n i .behaviour .0)) i (state n i) (behavioursOf n) m (p .processes i m) (code-of n (process n i .behaviour .0)) (p .codes))
+    d
+decided-keeps n (timeout i) e p m w d =
+    kept-of (expires (code n (process n i .behaviour .0)) (state n i))
+    (expires-good (code n (process n i .behaviour .0)) (state n i) (behavioursOf n) i (p .processes i m) (code-of n (process n i .behaviour .0)) (p .codes))
     d
 decided-keeps n (arrive i j) e p m w d =
     let b = parts (isNumber i) (isNumber j) m in

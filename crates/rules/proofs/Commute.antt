@@ -30,7 +30,8 @@ use Rattle.rules.specs.Behaviours.{Instruction}
 use Rattle.rules.specs.Effects.{MailChange, unchanged, joining, leaving, Effect, Sending, Birth}
 use Rattle.rules.specs.Nodes.{behavioursOf, code, process, mailbox, row}
 use Rattle.rules.specs.Run.{runs}
-use Rattle.rules.specs.Steps.{Action, run, arrive, owner, isUnborn, withArrival, withSending, withMail, withoutMail, withBirth, commit, numbered, ownerBorn, signalWaits, pairHasRoom}
+use Rattle.rules.specs.Steps.{Action, run, arrive, timeout, owner, isUnborn, withArrival, withSending, withMail, withoutMail, withBirth, commit, numbered, ownerBorn, signalWaits, pairHasRoom}
+use Rattle.rules.specs.Timeout.{expires}
 use Rattle.rules.specs.Steps.{numberFree, incoming, decide}
 use Rattle.rules.proofs.Accepted.{Act}
 use Rattle.rules.proofs.All.{parts}
@@ -176,6 +177,7 @@ pairs-apart-from j i l m a b c d h e = h (pair-same j i l m a b c d e .0)
 row-arrival : (s : Shelf Cell) (a : Action) (j i : ℕ) → So (numbered a) → So (isNumber j) → So (isNumber i) → i ≢ owner a → blockIn (withArrival s a) j i ≡ blockIn s j i
 unfolding numbered
 row-arrival s (run m) j i n b c h = refl
+row-arrival s (timeout m) j i n b c h = refl
 row-arrival s (arrive m l) j i n b c h = let w = parts (isNumber m) (isNumber l) n in blockOf-else 4 pop pop-keeps (pair l m) s (pair j i) (pairs-apart-to j i l m b c (w .1) (w .0) h)
 
 row-sending : (s : Shelf Cell) (m : ℕ) (o : Option Sending) (j i : ℕ) → So (isNumber m) → SentOk m o → So (isNumber j) → So (isNumber i) → j ≢ m → blockIn (withSending s m o) j i ≡ blockIn s j i
@@ -185,7 +187,9 @@ row-sending s m (some x) j i a t b c h = blockOf-else 4 (push (x .signal)) (push
 arrival-arrival : (s : Shelf Cell) (a b : Action) → So (numbered a) → So (numbered b) → owner a ≢ owner b → withArrival (withArrival s a) b ≡ withArrival (withArrival s b) a
 unfolding numbered
 arrival-arrival s (run i) b n k h = refl
+arrival-arrival s (timeout i) b n k h = refl
 arrival-arrival s (arrive i j) (run m) n k h = refl
+arrival-arrival s (arrive i j) (timeout m) n k h = refl
 arrival-arrival s (arrive i j) (arrive m l) n k h =
     let w = parts (isNumber i) (isNumber j) n in
     let v = parts (isNumber m) (isNumber l) k in
@@ -213,6 +217,7 @@ arrival-sending : (n : Node) (t : Shelf Cell) → SizedRows t → (i : ℕ) (o :
 unfolding numbered signalWaits pairHasRoom
 arrival-sending n t z i none b a c k r g h = refl
 arrival-sending n t z i (some x) (run m) a c k r g h = refl
+arrival-sending n t z i (some x) (timeout m) a c k r g h = refl
 arrival-sending n t z i (some x) (arrive m l) a c k r g h = go (ℕ-discrete (pair l m) (pair i (x .to)))
   where
     w : So (isNumber m) × So (isNumber l)
@@ -305,6 +310,8 @@ heard : (n w : Node) (a : Action) (e : Effect) → Act n a e → ((b : ℕ) → 
 unfolding Same incoming decide signalWaits numbered
 heard n w (run i) e t c p m k =
     (refl, ap (λ (q : Process). runs (code w (q .behaviour .0)) i (record { process = q; mail = mailbox w i })) p ∙ rw (c (process n i .behaviour .0), m) (t .decided))
+heard n w (timeout i) e t c p m k =
+    (refl, ap (λ (q : Process). expires (code w (q .behaviour .0)) (record { process = q; mail = mailbox w i })) p ∙ rw (c (process n i .behaviour .0), m) (t .decided))
 heard n w (arrive i j) e t c p m k =
     let v = parts (isNumber i) (isNumber j) (t .numbers) in
     let g = ltb-true 0 (length (row n j i)) (t .waits) in

@@ -7,6 +7,8 @@ pub mod Cases
 pub mod Told
 pub mod Ops
 pub mod Runs
+pub mod Timeouts
+pub mod Expiry
 pub mod Arrivals
 pub mod Accepted
 pub mod Shape

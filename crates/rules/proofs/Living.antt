@@ -18,7 +18,7 @@ use Rattle.node.specs.Lists.{without, allOf}
 use Rattle.node.specs.Processes.{register, withRegister, withRegisters, moved, trapped, linked, unlinked, watching, unwatching, watched, unwatched}
 use Rattle.node.specs.Sets.{noPeers, has, withPeer, withoutPeer}
 use Rattle.node.proofs.Sets.{has-none, has-with-other, has-without-false}
-use Rattle.rules.specs.Behaviours.{Instruction, onClause}
+use Rattle.rules.specs.Behaviours.{Instruction, onPart}
 use Rattle.rules.specs.Nodes.{standingIn, standing, setOf, runningSound, standingSound}
 use Rattle.rules.specs.Steps.{isUnborn}
 use Rattle.node.specs.Values.{isNumber, valueSound, messageSound}
@@ -34,7 +34,7 @@ codeOf codes b = getD codes (b - 1) []
 pub record Placed (codes : List (List Instruction)) (b t : ℕ) : Type 0 where
   pub known : So (leb 1 b && leb b (length codes))
   pub within : So (leb t (length (codeOf codes b)))
-  pub off : So (not (onClause (codeOf codes b) t))
+  pub off : So (not (onPart (codeOf codes b) t))
 
 pub record Valued (a b c d : Value) : Type 0 where
   pub v0 : So (valueSound a)
@@ -194,7 +194,7 @@ module _ (codes : List (List Instruction)) (i : ℕ) (p : Process) (m : List Mes
   pub live-born : isUnborn (p .stage) ≡ false
   live-born = ap isUnborn (a .stage)
 
-  pub moved-alive : (t : ℕ) → So (leb t (length (codeOf codes (p .behaviour .0)))) → So (not (onClause (codeOf codes (p .behaviour .0)) t)) → Alive codes i (moved p t) m
+  pub moved-alive : (t : ℕ) → So (leb t (length (codeOf codes (p .behaviour .0)))) → So (not (onPart (codeOf codes (p .behaviour .0)) t)) → Alive codes i (moved p t) m
   unfolding moved
   moved-alive t h g = record { stage = a .stage; placed = record { known = a .placed .known; within = h; off = g }; valued = a .valued; apart = a .apart; mailed = a .mailed }
 

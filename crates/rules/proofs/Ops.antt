@@ -27,16 +27,16 @@ use Rattle.node.specs.declared.Value.{Value}
 use Rattle.node.specs.declared.Value.the-variants.{Int, Pid}
 use Rattle.node.specs.Lists.{without, allOf}
 use Rattle.node.specs.Nodes.{noOp}
-use Rattle.node.specs.Ops.{kindsOf, opCount, recvOp, clauseOp}
+use Rattle.node.specs.Ops.{kindsOf, opCount, recvOp, clauseOp, afterOp}
 use Rattle.node.specs.Processes.{register, withRegister, withRegisters, moved, advanced, trapped, linked, unlinked, watching, unwatching, ended}
 use Rattle.node.specs.Values.{badarg, badarith, pid, isNumber, valueSound, messageSound, sameValue}
 use Rattle.rules.specs.Answers.{Answer, noFit}
-use Rattle.rules.specs.Behaviours.{Instruction, instruction, numeric, operand, operandInRange, onClause, isRecv, isClause, clauseCount, noInstruction, hasClauses, codeSound}
+use Rattle.rules.specs.Behaviours.{Instruction, instruction, numeric, operand, operandInRange, onPart, isRecv, isClause, isAfter, clauseCount, noInstruction, hasClauses, codeSound}
 use Rattle.rules.specs.Effects.{State, Effect, becomes, ends}
 use Rattle.rules.specs.Nodes.{signalSound, sound}
 use Rattle.rules.specs.Receive.{Fit, fits, firstClause, search, withSender, withMessage, receivesFit, receives}
 use Rattle.rules.specs.Run.{setsRegister, jumpsIf, sendsTo, toOther, spawns, stops, opTable, runsOp}
-use Rattle.rules.proofs.All.{parts, allOf-at, Each, last, _then_, each-at}
+use Rattle.rules.proofs.All.{parts, or-left, allOf-at, Each, last, _then_, each-at}
 use Rattle.rules.proofs.Cases.{jumps-any, adds-any, compares-any, sendsTo-any, toOther-any, receives-any}
 use Rattle.rules.proofs.Keeps.{Good, becomes-alive, sends-alive, ends-good}
 use Rattle.rules.proofs.Living.{codeOf, Valued, Mailed, Alive, alive, alive-sound, live-born, without-mailed, register-sound, withRegister-keeps, moved-alive, registers-alive}
@@ -121,8 +121,9 @@ module _ (codes : List (List Instruction)) (i : ℕ) (ops : List Op) (st : State
   there : getD whole t noInstruction ≡ instruction o
   there = op-at (length codes) ops checked t (g .inside) o (g .here)
 
+  -- the process stands at no part of a recv
   not-clause : isClause (instruction o) ≡ false
-  not-clause = not-true _ (rw (g .same, there) at (g .alive .placed .off))
+  not-clause = or-left (isClause (instruction o)) (isAfter (instruction o)) (not-true _ (rw (g .same, there) at (g .alive .placed .off)))
 
   -- operand j of the op, by its kind
   operand-good : (n j : ℕ) → o .number ≡ n → j < length (kindsOf n) → So (operandInRange (length codes) (length whole) (getD (kindsOf n) j NoOperand) (operand o (getD (kindsOf n) j NoOperand)))
@@ -141,7 +142,7 @@ module _ (codes : List (List Instruction)) (i : ℕ) (ops : List Op) (st : State
   unfolding advanced
   advanced-alive r q b eb et =
       let e : min (q .place + 1) 255 ≡ suc t = rw et (omega (arith, size-32, g .inside)) in
-      let off : So (not (onClause whole (suc t))) = next-off (length codes) whole checked t (rw size (g .inside)) (rw there r) (rw there not-clause) in
+      let off : So (not (onPart whole (suc t))) = next-off (length codes) whole checked t (rw size (g .inside)) (rw there r) (rw there not-clause) in
       record {
         stage = b .stage;
         placed = record { known = b .placed .known; within = rw (eb, g .same, e, size) (le-leb (suc t) (length ops) (g .inside)); off = rw (eb, g .same, e) off };
@@ -159,9 +160,9 @@ module _ (codes : List (List Instruction)) (i : ℕ) (ops : List Op) (st : State
   -- ---- recv
 
   abbrev OnTarget : Op → Type 0
-  OnTarget c = So (leb (c .target) (length whole)) × So (not (onClause whole (c .target)))
+  OnTarget c = So (leb (c .target) (length whole)) × So (not (onPart whole (c .target)))
 
-  moved-good : (k : ℕ) → So (leb k (length whole)) → So (not (onClause whole k)) → Alive codes i (moved p k) (st .mail)
+  moved-good : (k : ℕ) → So (leb k (length whole)) → So (not (onPart whole k)) → Alive codes i (moved p k) (st .mail)
   moved-good k h f = moved-alive codes i p (st .mail) (g .alive) k (rw (g .same) h) (rw (g .same) f)
 
   -- "The next n ops are its clauses"
@@ -187,7 +188,7 @@ module _ (codes : List (List Instruction)) (i : ℕ) (ops : List Op) (st : State
       let x : So (isClause (instruction (getD ops k noOp))) = rw d at (allOf-at isClause noInstruction (take n (drop (t + 1) whole)) (clauses-follow e) j l) in
       rw f (target-at (length codes) ops checked k c (getD ops k noOp) refl clauseOp 3 (eqb-true (getD ops k noOp .number) clauseOp x) (omega arith) refl)
 
-  module _ (m : List Message) (mail : Mailed m) (k : ℕ) (within : So (leb k (length whole))) (off : So (not (onClause whole k))) where
+  module _ (m : List Message) (mail : Mailed m) (k : ℕ) (within : So (leb k (length whole))) (off : So (not (onPart whole k))) where
     moved-with : (b c d e : Value) → Valued b c d e → Alive codes i (moved (withRegisters p b c d e) k) m
     moved-with b c d e w =
         let q = withRegisters p b c d e in
@@ -280,9 +281,9 @@ module _ (code : List Op) (i : ℕ) (st : State) (o : Op) where
         becomes-alive codes i st _ (advanced-alive codes i code st o g (other-op codes i code st o g 8 e refl) (trapped (st .process) f) trapping refl refl);
   }
 
-  -- a target: within the code, and on no clause
+  -- a target: within the code, and on no part of a recv
   abbrev Lands : List (List Instruction) → Type 0
-  Lands codes = So (leb (o .target) (length (map instruction code))) × So (not (onClause (map instruction code) (o .target)))
+  Lands codes = So (leb (o .target) (length (map instruction code))) × So (not (onPart (map instruction code) (o .target)))
 
   moves-shown : (k : ℕ) → If k Lands → Shown k (becomes st (moved (st .process) (o .target)))
   unfolding moved
@@ -367,7 +368,7 @@ module _ (code : List Op) (i : ℕ) (st : State) (o : Op) where
     good = λ codes g e. receives-any st (Good codes i (st .mail)) code o tt (fit-good codes i code st o g e);
   }
 
-  -- where operand j of the op is a place, it is within the code and on no clause
+  -- where operand j of the op is a place, it is within the code and on no part of a recv
   lands : (k j : ℕ) → j < length (kindsOf k) → getD (kindsOf k) j NoOperand ≡ PlaceT → If k Lands
   lands k j h p c g e = target-at (length c) code (checked c i code st o g) (st .process .place) (g .inside) o (g .here) k j e h p
 
@@ -400,6 +401,7 @@ module _ (code : List Op) (i : ℕ) (st : State) (o : Op) where
       then stops-shown 15
       then watching-shown
       then unwatching-shown
+      then stays-shown afterOp refl
       then last
 
   pub op-shown : Shown (o .number) (runsOp code i st o)

@@ -26,7 +26,8 @@ use Rattle.rules.specs.Nodes.{sound, Sound, Equal, view, behavioursOf, c
 use Rattle.rules.specs.Arrive.{answers, arrivesIn, arrives}
 use Rattle.rules.specs.Run.{closes, runsIn, runs}
 use Rattle.node.specs.Values.{numbers}
-use Rattle.rules.specs.Steps.{Action, run, arrive, owner, isUnborn, ownerBorn, pairHasRoom, numberFree, withBirth, state, incoming, commit, decide, step, playsOn, played, play}
+use Rattle.rules.specs.Steps.{Action, run, arrive, timeout, owner, isUnborn, ownerBorn, pairHasRoom, numberFree, withBirth, state, incoming, commit, decide, step, playsOn, played, play}
+use Rattle.rules.specs.Timeout.{expiresIn, expires}
 use Rattle.rules.specs.Traces.{Runs}
 use Rattle.rules.proofs.Cases.{closes-any, answers-any}
 use Rattle.rules.proofs.Accepted.{Act, goes-rule, step-rule, step-goes}
@@ -222,13 +223,20 @@ answers-same st e j x = answers-any st (λ y. y ≡ done e → st .process ≡ e
 -- an owner's stage goes forward
 owner-forward : (n : Node) (a : Action) (e : Effect) → Keeps (behavioursOf n) (owner a) (mailbox n (owner a)) e → So (ownerBorn n a) → decide n a ≡ done e → rank (process n (owner a) .stage) ≤ rank
     (e .process .stage)
-unfolding decide ownerBorn runs arrives processOf
+unfolding decide ownerBorn runs expires arrives processOf
 owner-forward n (run i) e k w h = go (process n i .stage) refl h
   where
     go : (s : Stage) → process n i .stage ≡ s → runsIn s (code n (process n i .behaviour .0)) i (state n i) ≡ done e → rank s ≤ rank (e .process .stage)
     go Unborn q h = omega arith
     go Live q h = born-rank (e .process .stage) (k .born)
     go Closing q h = closes-rank (state n i) e q h
+    go Gone q h = absurd (let z : _≡_ {A = ℕ} 0 1 = cc h in omega arith)
+owner-forward n (timeout i) e k w h = go (process n i .stage) refl h
+  where
+    go : (s : Stage) → process n i .stage ≡ s → expiresIn s (code n (process n i .behaviour .0)) (state n i) ≡ done e → rank s ≤ rank (e .process .stage)
+    go Unborn q h = omega arith
+    go Live q h = born-rank (e .process .stage) (k .born)
+    go Closing q h = absurd (let z : _≡_ {A = ℕ} 0 1 = cc h in omega arith)
     go Gone q h = absurd (let z : _≡_ {A = ℕ} 0 1 = cc h in omega arith)
 owner-forward n (arrive i j) e k w h = go (process n i .stage) refl h
   where

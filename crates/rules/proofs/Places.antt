@@ -17,7 +17,7 @@ use Rattle.node.specs.Nodes.{noOp}
 use Rattle.node.specs.Ops.{kindsOf, opCount, recvOp}
 use Rattle.node.specs.Processes.{fresh}
 use Rattle.node.proofs.Lists.{allFrom-at}
-use Rattle.rules.specs.Behaviours.{Instruction, instruction, numeric, operand, operandInRange, inRange, onClause, isRecv, isClause, clauseCount, noInstruction, hasClauses, dueNext}
+use Rattle.rules.specs.Behaviours.{Instruction, instruction, numeric, operand, operandInRange, inRange, onPart, isRecv, isClause, isAfter, clauseCount, noInstruction, hasClauses, dueNext}
 use Rattle.rules.specs.Behaviours.{due, targetFree, targetsFree, wellPlaced, codeSound}
 use Rattle.rules.specs.Nodes.{standing, standingSound}
 use Rattle.node.specs.Values.{fitsInt, valueSound}
@@ -31,20 +31,23 @@ due-behind : (k : ℕ) (l : List Instruction) (x : Instruction) → due k (l ++ 
 due-behind k [] x = refl
 due-behind k (y ∷ l) x = due-behind (dueNext k y) l x
 
--- the three rules of 14
+-- the four rules of 14
 pub record WellPlaced (code : List Instruction) (t : ℕ) (x : Instruction) : Type 0 where
   pub recv : So (not (isRecv x) || hasClauses (clauseCount x) (drop (t + 1) code))
-  pub clause : So (not (isClause x) || ltb 0 (due 0 (take t code)))
+  pub clause : So (not (isClause x) || ltb 1 (due 0 (take t code)))
+  pub after : So (not (isAfter x) || eqb (due 0 (take t code)) 1)
   pub targets : So (targetsFree code x)
 
 well-placed : (code : List Instruction) (t : ℕ) (x : Instruction) → So (wellPlaced code t x) → WellPlaced code t x
 unfolding wellPlaced
 well-placed code t x h =
     let a = not (isRecv x) || hasClauses (clauseCount x) (drop (t + 1) code) in
-    let b = not (isClause x) || ltb 0 (due 0 (take t code)) in
-    let w = parts (a && b) (targetsFree code x) h in
-    let u = parts a b (w .0) in
-    record { recv = u .0; clause = u .1; targets = w .1 }
+    let b = not (isClause x) || ltb 1 (due 0 (take t code)) in
+    let d = not (isAfter x) || eqb (due 0 (take t code)) 1 in
+    let w = parts (a && b && d) (targetsFree code x) h in
+    let v = parts (a && b) d (w .0) in
+    let u = parts a b (v .0) in
+    record { recv = u .0; clause = u .1; after = v .1; targets = w .1 }
 
 module _ (c : ℕ) (code : List Instruction) (h : So (codeSound c code)) where
   pub code-short : length code ≤ 32
@@ -63,21 +66,24 @@ module _ (c : ℕ) (code : List Instruction) (h : So (codeSound c code)) where
       let w = parts (inRange c (length code) x) (wellPlaced code t x) (rw e at (allFrom-at f 0 code t noInstruction (parts (leb 1 (length code) && leb (length code) 32) (allFrom f 0 code) h .1) g)) in
       (w .0, well-placed code t x (w .1))
 
-  -- where no clause is due, none stands
-  none-due-off : (t : ℕ) → due 0 (take t code) ≡ 0 → So (not (onClause code t))
-  none-due-off t d = go (isClause (getD code t noInstruction)) refl (leb (suc t) (length code)) refl
+  -- where no part of a recv may stand, none does
+  none-due-off : (t : ℕ) → due 0 (take t code) ≡ 0 → So (not (onPart code t))
+  none-due-off t d = go (leb (suc t) (length code)) refl
     where
-      go : (x : Bool) → isClause (getD code t noInstruction) ≡ x → (y : Bool) → leb (suc t) (length code) ≡ y → So (not x)
-      go false e y f = refl
-      go true e true f =
-          let u = op-sound t (leb-true (suc t) (length code) f) .1 .clause in
-          absurd (false≢true (rw (e, d) at u))
-      go true e false f =
-          let z : getD code t noInstruction ≡ noInstruction = List·getD-eq-default code noInstruction {n = t} (omega (arith, leb-false (suc t) (length code) f)) in
-          absurd (false≢true (rw z at e))
+      x : Instruction
+      x = getD code t noInstruction
+
+      inside : WellPlaced code t x → (a b : Bool) → isClause x ≡ a → isAfter x ≡ b → So (not (a || b))
+      inside w false false e f = refl
+      inside w true b e f = absurd (false≢true (rw (e, d) at (w .clause)))
+      inside w false true e f = absurd (false≢true (rw (f, d) at (w .after)))
+
+      go : (y : Bool) → leb (suc t) (length code) ≡ y → So (not (onPart code t))
+      go true f = inside (op-sound t (leb-true (suc t) (length code) f) .1) (isClause x) (isAfter x) refl refl
+      go false f = rw (List·getD-eq-default code noInstruction {n = t} (omega (arith, leb-false (suc t) (length code) f)))
 
   -- so none stands behind an op that is neither recv nor a clause
-  pub next-off : (t : ℕ) → t < length code → isRecv (getD code t noInstruction) ≡ false → isClause (getD code t noInstruction) ≡ false → So (not (onClause code (suc t)))
+  pub next-off : (t : ℕ) → t < length code → isRecv (getD code t noInstruction) ≡ false → isClause (getD code t noInstruction) ≡ false → So (not (onPart code (suc t)))
   next-off t g a b = none-due-off (suc t) (rw (take-suc code t noInstruction g, due-behind 0 (take t code) (getD code t noInstruction), a, b))
 
 -- ---- operands of an op of a sound behaviour
@@ -100,7 +106,7 @@ module _ (c : ℕ) (ops : List Op) (checked : So (codeSound c (map instruction o
       let w : So (allTwo (operandInRange c (length code)) (kindsOf (o .number)) (map (operand o) (kindsOf (o .number)))) = parts (ltb (o .number) opCount) _ (facts .0) .1 in
       allTwo-at (operandInRange c (length code)) (operand o) NoOperand (kindsOf n) (subst (λ (x : ℕ). So (allTwo (operandInRange c (length code)) (kindsOf x) (map (operand o) (kindsOf x)))) e w) j h
 
-  -- and where it is a target, it is on no clause
+  -- and where it is a target, it is on no part of a recv
   target-off : (n j : ℕ) → o .number ≡ n → j < length (kindsOf n) → So (targetFree code (getD (kindsOf n) j NoOperand) (operand o (getD (kindsOf n) j NoOperand)))
   unfolding targetsFree instruction
   target-off n j e h =
@@ -108,7 +114,7 @@ module _ (c : ℕ) (ops : List Op) (checked : So (codeSound c (map instruction o
       allTwo-at (targetFree code) (operand o) NoOperand (kindsOf n) (subst (λ (x : ℕ). So (allTwo (targetFree code) (kindsOf x) (map (operand o) (kindsOf x)))) e w) j h
 
   abbrev pub Target : Type 0
-  Target = So (leb (o .target) (length code)) × So (not (onClause code (o .target)))
+  Target = So (leb (o .target) (length code)) × So (not (onPart code (o .target)))
 
   pub target-at : (n j : ℕ) → o .number ≡ n → j < length (kindsOf n) → getD (kindsOf n) j NoOperand ≡ PlaceT → Target
   unfolding operand operandInRange
@@ -151,7 +157,7 @@ recv-clauses c ops checked t inside e =
 
 -- ---- a process that begins
 
--- it stands at place 0, which no clause is on: none is due there
+-- it stands at place 0, which no part of a recv is on: none may stand there
 module _ (codes : List (List Instruction)) (sounds : So (allOf (codeSound (length codes)) codes)) (i : ℕ) (b : BehaviourNumber) (v : Value) where
   fresh-alive : So (leb 1 (b .0) && leb (b .0) (length codes)) → So (valueSound v) → Alive codes i (fresh b v) []
   unfolding fitsInt

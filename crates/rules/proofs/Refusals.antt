@@ -1,4 +1,4 @@
--- A rule refuses with 20 to 27, so no play of a sound node tells 31: a play tells 31 exactly where the node is not sound. Assumes nothing.
+-- A rule refuses with 20 to 28, so no play of a sound node tells 31: a play tells 31 exactly where the node is not sound. Assumes nothing.
 --   rule-told             the numbers of a rule
 --   told-31 not-told-31   31 is told by a play exactly where the node is not sound
 --   refusal-most accepted-most   the numbers of a play of a sound node end at 32, the count of every play at 4,096
@@ -11,14 +11,15 @@ use borrow.Author.Tests.{ltb-false}
 use lib.Dec.{ltb}
 use lib.ListN.{length, drop}
 use Rattle.node.specs.declared.Node.{Node}
-use Rattle.rules.specs.Answers.{refused, badNumber, ownerUnborn, noneInFlight, pairFull, notUnborn, notSound, scheduleTooLong}
+use Rattle.rules.specs.Answers.{refused, badNumber, ownerUnborn, noneInFlight, pairFull, notUnborn, noTimeout, notSound, scheduleTooLong}
 use Rattle.rules.specs.Guarantees.{Stopped}
 use Rattle.rules.specs.Nodes.{Sound, sound}
-use Rattle.rules.specs.Steps.{Action, run, arrive, owner, numbered, ownerBorn, signalWaits, pairHasRoom, numberFree, decide, ready, rule, played, play}
+use Rattle.rules.specs.Steps.{Action, run, arrive, timeout, owner, numbered, ownerBorn, signalWaits, pairHasRoom, numberFree, decide, ready, rule, played, play}
 use Rattle.rules.proofs.Accepted.{step-rule}
 use Rattle.rules.proofs.Arrivals.{arrives-told}
 use Rattle.rules.proofs.Order.{sound-kept, played-count, play-is-steps}
 use Rattle.rules.proofs.Runs.{runs-told}
+use Rattle.rules.proofs.Timeouts.{expires-told}
 use Rattle.rules.proofs.Told.{Told, Ruled, need-ruled, goOn-ruled}
 
 -- ---- a rule and a play
@@ -27,6 +28,7 @@ decide-told : (n : Node) (a : Action) → Told Ruled (decide n a)
 unfolding decide
 decide-told n (run i) = runs-told _ i _
 decide-told n (arrive i j) = arrives-told i j _ _
+decide-told n (timeout i) = expires-told _ _
 
 pub rule-told : (n : Node) (a : Action) → Told Ruled (rule n a)
 unfolding rule ready
@@ -38,7 +40,7 @@ rule-told n a =
     (λ e. need-ruled (numberFree n (e .born)) notUnborn _ (omega arith, omega arith) tt)
 
 -- a play that stopped at a sound node stopped with a number of the schedule writer, or with none
-stopped-told : (n : Node) (l : List Action) (k : ℕ) → Sound n → Stopped n l k → k ≤ notUnborn
+stopped-told : (n : Node) (l : List Action) (k : ℕ) → Sound n → Stopped n l k → k ≤ noTimeout
 stopped-told n [] k s h = omega (arith, h)
 stopped-told n (a ∷ l) k s h =
     let r : rule n a ≡ refused k = sym (step-rule n a s) ∙ h in
@@ -50,7 +52,7 @@ module _ (n : Node) (l : List Action) where
   unfolding play
   long h s = rw (s, h)
 
-  short : ltb 4096 (length l) ≡ false → Sound n → play n l .refusal ≤ notUnborn
+  short : ltb 4096 (length l) ≡ false → Sound n → play n l .refusal ≤ noTimeout
   short h s = stopped-told (play n l .node) (drop (play n l .accepted) l) (play n l .refusal) (sound-kept .1 n l s) (play-is-steps n l s (ltb-false 4096 (length l) h) .2)
 
   pub refusal-most : Sound n → play n l .refusal ≤ scheduleTooLong

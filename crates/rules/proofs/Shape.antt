@@ -19,7 +19,7 @@ use Rattle.node.specs.Rows.{noSignal, cellOf}
 use Rattle.node.proofs.Blocks.{Room, Keeping, changed-cells, changed-counts, joined-keeps, left-keeps, popped-keeps, emptied-keeps}
 use Rattle.rules.specs.Effects.{MailChange, unchanged, joining, leaving, Effect, Sending, Birth}
 use Rattle.rules.specs.Nodes.{shaped}
-use Rattle.rules.specs.Steps.{Action, run, arrive, owner, withArrival, withSending, withMail, withoutMail, withBirth, commit}
+use Rattle.rules.specs.Steps.{Action, run, arrive, timeout, owner, withArrival, withSending, withMail, withoutMail, withBirth, commit}
 use Rattle.rules.proofs.All.{both, parts}
 
 -- a shelf of mailboxes and one of rows, as long as the types of a node say
@@ -98,6 +98,7 @@ without-sized s (some b) z = mail-changed emptied emptied-keeps (b .number - 1) 
 
 pub arrival-sized : (s : Shelf Cell) (a : Action) → SizedRows s → SizedRows (withArrival s a)
 arrival-sized s (run i) z = z
+arrival-sized s (timeout i) z = z
 arrival-sized s (arrive i j) z = rows-changed (popped noSignal) (popped-keeps noSignal) _ s z
 
 pub sending-sized : (s : Shelf Cell) (i : ℕ) (o : Option Sending) → SizedRows s → SizedRows (withSending s i o)

@@ -1,9 +1,9 @@
 -- Which numbers an answer refuses with. Assumes nothing.
 --   Told P x   where x is a refusal, P holds of its number
---   Ruled k    k is one of the numbers of the schedule writer, 20 to 27
+--   Ruled k    k is one of the numbers of the schedule writer, 20 to 28
 use mathlib.Core.Bool.{Bool, true, false}
 use Prim.Native.Nat.{ℕ, _≤_}
-use Rattle.rules.specs.Answers.{Answer, refused, done, need, goOn, badNumber, notUnborn}
+use Rattle.rules.specs.Answers.{Answer, refused, done, need, goOn, badNumber, noTimeout}
 
 abbrev pub Told : {A : Type 0} → (ℕ → Type 0) → Answer A → Type 0
 Told P (refused k) = P k
@@ -11,7 +11,7 @@ Told P (done a) = Unit {0}
 
 -- the numbers of the schedule writer
 abbrev pub Ruled : ℕ → Type 0
-Ruled k = (badNumber ≤ k) × (k ≤ notUnborn)
+Ruled k = (badNumber ≤ k) × (k ≤ noTimeout)
 
 pub told-more : {A : Type 0} (P Q : ℕ → Type 0) → ((k : ℕ) → P k → Q k) → (x : Answer A) → Told P x → Told Q x
 told-more P Q f (refused k) h = f k h

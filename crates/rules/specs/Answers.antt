@@ -48,6 +48,10 @@ pairFull = 26
 abbrev pub notUnborn : ℕ
 notUnborn = 27
 
+-- timeout of a process that is not live at a recv with `after`, or for which a message fits
+abbrev pub noTimeout : ℕ
+noTimeout = 28
+
 -- node not sound
 abbrev pub notSound : ℕ
 notSound = 31

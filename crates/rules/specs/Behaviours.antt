@@ -2,7 +2,8 @@
 --   Instruction         an op as document 01 writes it: its number and the operands that it has
 --   instruction o       the instruction that an op record holds; fields that are no operands of the op do not count
 --   inRange c n x       12: each operand of x is in range, where the plan has c behaviours and the code n ops
---   wellPlaced code t x 14: x, at place t of the code, is a recv with its clauses, a clause of a recv, or neither; its target is on no clause
+--   wellPlaced code t x 14: x, at place t of the code, is a recv with its clauses, a clause of a recv, an `after` behind the last of them, or
+--                       none of these; its target is on no clause and on no `after`
 --   codeSound c code    a behaviour of a plan with c behaviours passes the plan's rules
 use mathlib.Core.Bool.{Bool, true, _&&_, _||_, not, cond}
 use mathlib.Core.List.{List, [], _∷_, map}
@@ -14,7 +15,7 @@ use Rattle.node.specs.declared.OperandKind.{OperandKind}
 use Rattle.node.specs.declared.OperandKind.the-variants.{NoOperand, RegisterR, RegisterS, ValueV, PlaceT, BehaviourB, ProcessQ, FlagF, CountN, KindK}
 use Rattle.node.specs.declared.Value.{Value}
 use Rattle.node.specs.Lists.{allFrom, allOf, allTwo}
-use Rattle.node.specs.Ops.{kindsOf, isKind, opCount, recvOp, clauseOp}
+use Rattle.node.specs.Ops.{kindsOf, isKind, opCount, isPart, recvOp, clauseOp, afterOp}
 use Rattle.node.specs.Values.{intZero, isNumber, valueSound, exactKind, lastKind}
 
 -- an operand: a number or a value; a clause kind is a number of node's `Values`, with one exact value where it is `exactKind`
@@ -68,6 +69,9 @@ isRecv x = eqb (x .number) recvOp
 abbrev pub isClause : Instruction → Bool
 isClause x = eqb (x .number) clauseOp
 
+abbrev pub isAfter : Instruction → Bool
+isAfter x = eqb (x .number) afterOp
+
 -- recv's n
 abbrev pub clauseCount : Instruction → ℕ
 clauseCount x = getD (x .operands) 0 (numeric 0) .number
@@ -75,33 +79,35 @@ clauseCount x = getD (x .operands) 0 (numeric 0) .number
 abbrev pub noInstruction : Instruction
 noInstruction = record { number = 0; operands = [] }
 
-abbrev pub onClause : List Instruction → ℕ → Bool
-onClause code t = isClause (getD code t noInstruction)
+-- a place that no process stands at and no target leads to
+abbrev pub onPart : List Instruction → ℕ → Bool
+onPart code t = isPart (getD code t noInstruction .number)
 
 -- "The next n ops are its clauses"
 unfoldable pub hasClauses : ℕ → List Instruction → Bool
 hasClauses n rest = leb n (length rest) && allOf isClause (take n rest)
 
--- of the clauses of the last recv, how many are still due behind the given ops, where k were due before them
+-- of the parts of the last recv, its clauses and then an `after`, how many may still stand behind the given ops, where k could before them
 abbrev pub dueNext : ℕ → Instruction → ℕ
-dueNext k x = cond (isRecv x) (clauseCount x) (cond (isClause x) (k - 1) 0)
+dueNext k x = cond (isRecv x) (clauseCount x + 1) (cond (isClause x) (k - 1) 0)
 
 abbrev pub due : ℕ → List Instruction → ℕ
 due k [] = k
 due k (x ∷ xs) = due (dueNext k x) xs
 
--- "target place on a clause"
+-- "target place on a clause"; "a target place on an `after` is 14 as well"
 abbrev pub targetFree : List Instruction → OperandKind → Operand → Bool
-targetFree code kind x = not (isKind PlaceT kind) || not (onClause code (x .number))
+targetFree code kind x = not (isKind PlaceT kind) || not (onPart code (x .number))
 
 unfoldable pub targetsFree : List Instruction → Instruction → Bool
 targetsFree code x = allTwo (targetFree code) (kindsOf (x .number)) (x .operands)
 
--- "recv without its clauses, stray clause, target place on a clause"
+-- "recv without its clauses, stray clause, target place on a clause"; `after` is "allowed only directly behind the last clause of a recv"
 unfoldable pub wellPlaced : List Instruction → ℕ → Instruction → Bool
 wellPlaced code t x =
     (not (isRecv x) || hasClauses (clauseCount x) (drop (t + 1) code))
-    && (not (isClause x) || ltb 0 (due 0 (take t code)))
+    && (not (isClause x) || ltb 1 (due 0 (take t code)))
+    && (not (isAfter x) || eqb (due 0 (take t code)) 1)
     && targetsFree code x
 
 -- "A behaviour is a row of N ops"; N is 1 to 32

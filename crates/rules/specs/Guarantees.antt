@@ -1,23 +1,28 @@
--- The guarantees on these rules. Each is proved in proofs/Order.antt under the name beside it; proofs/Consequences.antt draws from each what
--- a weaker statement would not give.
+-- The guarantees on these rules. Each is proved in proofs/Order.antt, the last in proofs/Expiry.antt, under the name beside it;
+-- proofs/Consequences.antt draws from each what a weaker statement would not give.
 --   Order        order         demand 3: lists in which each process has the same accepted steps in the same order end in equal nodes
 --   SoundKept    sound-kept    an accepted step and a play of a sound node leave a sound node
 --   PlayIsSteps  play-is-steps a play of a sound node is its steps one after another, up to the first refusal
 --   Exclusive    exclusive     "then the rest, of which no two can meet"
 --   Forward      forward       stages only go forward: unborn, live, closing, gone
-use mathlib.Core.Bool.{false, So}
+--   Timeouts     timeouts      M-102: a timeout is accepted exactly where its owner may give up; else it is 20, 21 or 28, each exactly
+use mathlib.Core.Bool.{Bool, false, So, not, _&&_}
 use mathlib.Core.List.{List, [], _∷_}
 use mathlib.Core.Path.{_≡_}
-use Prim.Native.Nat.{ℕ, _≤_}
-use lib.ListN.{length, take, drop}
+use Prim.Native.Nat.{ℕ, _+_, _-_, _≤_}
+use lib.ListN.{length, getD, set, take, drop}
 use Rattle.node.specs.declared.Node.{Node}
 use Rattle.node.specs.declared.Stage.{Stage}
 use Rattle.node.specs.declared.Stage.the-variants.{Unborn, Live, Closing, Gone}
-use Rattle.rules.specs.Answers.{refused, done, pairFull, notUnborn}
+use Rattle.node.specs.Nodes.{noOp}
+use Rattle.node.specs.Processes.{moved}
+use Rattle.node.specs.Values.{isNumber}
+use Rattle.rules.specs.Answers.{refused, done, need, badNumber, ownerUnborn, pairFull, notUnborn, noTimeout}
 use Rattle.rules.specs.Calls.{Call, after, acceptedBy}
 use Rattle.rules.specs.Effects.{Effect}
-use Rattle.rules.specs.Nodes.{Sound, process}
-use Rattle.rules.specs.Steps.{Action, owner, numbered, signalWaits, pairHasRoom, numberFree, decide, step, play}
+use Rattle.rules.specs.Nodes.{Sound, code, process, mailbox}
+use Rattle.rules.specs.Steps.{Action, timeout, owner, isUnborn, numbered, signalWaits, pairHasRoom, numberFree, decide, step, play}
+use Rattle.rules.specs.Timeout.{behindClauses, atAfter, isLive, silent}
 use Rattle.rules.specs.Traces.{Runs}
 
 -- For every sound node and every two lists of calls, single steps or plays, refused steps included: where each process 1 to 16 has the same
@@ -43,7 +48,7 @@ PlayIsSteps =
     Runs step n (take (play n l .accepted) l) (play n l .node) ×
     Stopped (play n l .node) (drop (play n l .accepted) l) (play n l .refusal)
 
--- why a step that passes 20, 21 and 23 is refused: the decision says so (22, 24, 25), or 26, or 27
+-- why a step that passes 20, 21 and 23 is refused: the decision says so (22, 24, 25, 28), or 26, or 27
 pub data Cause (n : Node) (a : Action) : ℕ → Type 0 where
   undecided : {k : ℕ} → decide n a ≡ refused k → Cause n a k
   full : {e : Effect} → decide n a ≡ done e → pairHasRoom n (owner a) (e .sent) ≡ false → Cause n a pairFull
@@ -60,3 +65,34 @@ rank Gone = 3
 
 abbrev pub Forward : Type 0
 Forward = (n m : Node) (a : Action) → step n a ≡ done m → (i : ℕ) → rank (process n i .stage) ≤ rank (process m i .stage)
+
+-- "a live process at such a recv .. if no message fits"
+abbrev pub mayExpire : Node → ℕ → Bool
+mayExpire n i =
+    let p = process n i in
+    let ops = code n (p .behaviour .0) in
+    isLive (p .stage) && atAfter ops (p .place) && silent (take (getD ops (p .place) noOp .small) (drop (p .place + 1) ops)) (mailbox n i)
+
+-- the place becomes the target of the `after`; "Nothing else changes"
+abbrev pub expiredNode : Node → ℕ → Node
+expiredNode n i =
+    let p = process n i in
+    record {
+      count = n .count;
+      lens = n .lens;
+      ops = n .ops;
+      processes = set (n .processes) (i - 1) (moved p (behindClauses (code n (p .behaviour .0)) (p .place) .target));
+      waiting = n .waiting;
+      slots = n .slots;
+      counts = n .counts;
+      cells = n .cells;
+    }
+
+abbrev pub Timeouts : Type 0
+Timeouts =
+    (n : Node) (i : ℕ) → Sound n →
+    step n (timeout i)
+    ≡ need (isNumber i) badNumber
+    (need (not (isUnborn (process n i .stage))) ownerUnborn
+    (need (mayExpire n i) noTimeout
+    (done (expiredNode n i))))

@@ -4,6 +4,7 @@ pub mod Nodes
 pub mod Effects
 pub mod Receive
 pub mod Run
+pub mod Timeout
 pub mod Arrive
 pub mod Steps
 pub mod Suggest

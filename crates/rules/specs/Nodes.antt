@@ -29,7 +29,7 @@ use Rattle.node.specs.Mailboxes.{messages}
 use Rattle.node.specs.Nodes.{noOp, noProcess, pair, mailShelf, flightShelf}
 use Rattle.node.specs.Rows.{signals}
 use Rattle.node.specs.Sets.{has}
-use Rattle.rules.specs.Behaviours.{Instruction, instruction, onClause, codeSound}
+use Rattle.rules.specs.Behaviours.{Instruction, instruction, onPart, codeSound}
 use Rattle.node.specs.Values.{numbers, isNumber, valueSound, messageSound}
 
 -- ---- where the parts of a node stand
@@ -119,7 +119,7 @@ unfoldable pub runningSound : List (List Instruction) → Running → Bool
 runningSound codes r =
     leb 1 (r .behaviour) && leb (r .behaviour) (length codes)
     && leb (r .place) (length (getD codes (r .behaviour - 1) []))
-    && not (onClause (getD codes (r .behaviour - 1) []) (r .place))
+    && not (onPart (getD codes (r .behaviour - 1) []) (r .place))
     && allOf valueSound (r .registers)
     && leb (length (r .mail)) 16 && allOf messageSound (r .mail)
 

@@ -3,6 +3,7 @@
 --   Fit                a message, its index in the mailbox, and the clause that takes it
 --   search cs i ms     the first fit: messages in mailbox order, the first having index i, and for each the clauses in their order
 --   withMessage p c m  process p with message m in the registers that clause c names
+--   firstFit code st o what the search gives for recv o, at which the process is
 --   receives           the answer of a recv
 use mathlib.Core.Bool.{Bool, false, cond, _||_}
 use mathlib.Core.List.{List, [], _∷_}
@@ -65,5 +66,8 @@ receivesFit st (some f) = done (record {
 })
 
 -- "The next n ops are its clauses"
+abbrev pub firstFit : List Op → State → Op → Option Fit
+firstFit code st o = search (take (o .small) (drop (st .process .place + 1) code)) 0 (st .mail)
+
 unfoldable pub receives : List Op → State → Op → Answer Effect
-receives code st o = receivesFit st (search (take (o .small) (drop (st .process .place + 1) code)) 0 (st .mail))
+receives code st o = receivesFit st (firstFit code st o)

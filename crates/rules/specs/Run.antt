@@ -116,6 +116,7 @@ opTable code i st o =
     ∷ stops st o  -- stop,r
     ∷ toOther i st r (sendsTo st r (watching p) Monitor)  -- monitor,r
     ∷ toOther i st r (sendsTo st r (unwatching p) Demonitor)  -- demonitor,r
+    ∷ becomes st (advanced p)  -- after, which no place of a sound node is on
     ∷ []
 
 -- a number past the table, which no op of a sound node has, is read as stop

@@ -1,10 +1,10 @@
 -- Steps and schedules (document 01, "Steps" and "The three hands").
---   Action         a step: `run i` or `arrive i from j`
+--   Action         a step: `run i`, `arrive i from j` or `timeout i`
 --   owner a        its owner
 --   meaning s      the action that a step record stands for
 --   decide n a     the local decision: what the owner does, from its own state, its code and the oldest signal of one row
 --   commit n a e   the node after effect e of action a
---   rule n a       the checks 20 to 27 in their order, then the commit
+--   rule n a       the checks 20 to 28 in their order, then the commit
 --   step n a       a step: 31, then the rule
 --   played n l     steps played until one is refused
 --   play n l       a schedule (action trace): 31, 32, then played
@@ -31,19 +31,22 @@ use Rattle.rules.specs.Arrive.{arrives}
 use Rattle.rules.specs.Effects.{State, MailChange, unchanged, joining, leaving, Effect, Sending, Birth}
 use Rattle.rules.specs.Nodes.{code, process, mailbox, row, sound}
 use Rattle.rules.specs.Run.{runs}
+use Rattle.rules.specs.Timeout.{expires}
 use Rattle.node.specs.Values.{isNumber}
 
 pub data Action : Type 0 where
   run : ℕ → Action
   arrive : ℕ → ℕ → Action
+  timeout : ℕ → Action
 
 abbrev pub owner : Action → ℕ
 owner (run i) = i
 owner (arrive i j) = i
+owner (timeout i) = i
 
--- a step record by its kind: 0 run, 1 arrive; any other kind stands for `run 0`, which is refused with 20
+-- a step record by its kind: 0 run, 1 arrive, 2 timeout; any other kind stands for `run 0`, which is refused with 20
 unfoldable pub meaning : Step → Action
-meaning s = getD (run (s .owner .0) ∷ arrive (s .owner .0) (s .from .0) ∷ []) (s .kind) (run 0)
+meaning s = getD (run (s .owner .0) ∷ arrive (s .owner .0) (s .from .0) ∷ timeout (s .owner .0) ∷ []) (s .kind) (run 0)
 
 -- ---- the checks
 
@@ -57,6 +60,7 @@ isUnborn Gone = false
 unfoldable pub numbered : Action → Bool
 numbered (run i) = isNumber i
 numbered (arrive i j) = isNumber i && isNumber j
+numbered (timeout i) = isNumber i
 
 -- 21: the owner is born
 unfoldable pub ownerBorn : Node → Action → Bool
@@ -66,6 +70,7 @@ ownerBorn n a = not (isUnborn (process n (owner a) .stage))
 unfoldable pub signalWaits : Node → Action → Bool
 signalWaits n (run i) = true
 signalWaits n (arrive i j) = ltb 0 (length (row n j i))
+signalWaits n (timeout i) = true
 
 -- 26: the pair has room for what i sends
 unfoldable pub pairHasRoom : Node → ℕ → Option Sending → Bool
@@ -89,11 +94,13 @@ incoming n j i = getD (row n j i) 0 (noSignal .signal)
 unfoldable pub decide : Node → Action → Answer Effect
 decide n (run i) = runs (code n (process n i .behaviour .0)) i (state n i)
 decide n (arrive i j) = arrives i j (state n i) (incoming n j i)
+decide n (timeout i) = expires (code n (process n i .behaviour .0)) (state n i)
 
 -- "Arrive takes the oldest signal from j to i"
 abbrev pub withArrival : Shelf Cell → Action → Shelf Cell
 withArrival s (run i) = s
 withArrival s (arrive i j) = changed 4 (popped noSignal) (pair j i) s
+withArrival s (timeout i) = s
 
 abbrev pub withSending : Shelf Cell → ℕ → Option Sending → Shelf Cell
 withSending s i none = s
@@ -131,7 +138,7 @@ commit n a e =
 
 -- ---- a step
 
--- all that is looked at before 27: "20, 21, 22 or 23, then the rest, of which no two can meet"; 22, 24 and 25 are the decision's
+-- all that is looked at before 27: "20, 21, 22 or 23, then the rest, of which no two can meet"; 22, 24, 25 and 28 are the decision's
 unfoldable pub ready : Node → Action → Answer Effect
 ready n a =
     need (numbered a) badNumber

@@ -1,5 +1,5 @@
 -- Suggesting (document 01, "Suggest").
---   possible        the 272 possible steps: by owner, its run, then its arrivals by sender
+--   possible        the 288 possible steps: by owner, its run, its timeout, then its arrivals by sender
 --   acceptable n a  step a would be accepted
 --   Suggests n s    s is a right answer: 31, a step that would be accepted, or none where no step would be
 use mathlib.Core.Bool.{Bool, true, false, not, So}
@@ -11,11 +11,11 @@ use Rattle.node.specs.declared.Node.{Node}
 use Rattle.node.specs.Lists.{allOf}
 use Rattle.rules.specs.Answers.{Answer, refused, done, notSound}
 use Rattle.rules.specs.Nodes.{Sound, sound}
-use Rattle.rules.specs.Steps.{Action, run, arrive, step}
+use Rattle.rules.specs.Steps.{Action, run, arrive, timeout, step}
 use Rattle.node.specs.Values.{numbers}
 
 abbrev pub ownedBy : ℕ → List Action
-ownedBy i = run i ∷ map (arrive i) numbers
+ownedBy i = run i ∷ timeout i ∷ map (arrive i) numbers
 
 unfoldable pub possible : List Action
 unfolding flatMap

@@ -1,5 +1,5 @@
 -- Laws of reading steps text: what one line is, and what is known of a text behind some of its lines. Assumes nothing.
---   line-run line-arrive line-other   the answers for one line
+--   line-run line-arrive line-timeout line-other   the answers for one line
 --   So                                the lines up to a place are steps, which are stored
 --   so-room                           the steps are 4,096 entries
 --   so-none so-more                   at the start, and behind one line more
@@ -15,32 +15,39 @@ use lib.ListN.{length, take, drop, set, replicate, length-append}
 use Rattle.node.specs.Lists.{firsts}
 use Rattle.node.proofs.Lists.{firsts-length}
 use Rattle.rules.specs.Answers.{Answer, refused, done, scheduleTooLong}
-use Rattle.text.specs.declared.Ranged.{Ranged}
 use Rattle.text.specs.Parts.{Lines, lineThen, linesOf, placeFrom, fieldsOf, startsWith}
 use Rattle.text.proofs.Parts.{drop-at, tail-part, lines-at, lines-rest, lines-none, starts-long}
 use Rattle.schedule.specs.declared.Schedule.{Schedule}
-use Rattle.schedule.specs.Reading.{malformedLine, byteOf, packedOf, arrivalOf, runKey, arriveKey, stepOf, readLines, firstMalformed, stepsOf, refusedText, acceptedSteps, ofLines, scheduleOf}
+use Rattle.schedule.specs.Reading.{malformedLine, ownOf, arrivalOf, runKey, arriveKey, timeoutKey, stepOf, readLines, firstMalformed, stepsOf, refusedText, acceptedSteps, ofLines, scheduleOf}
 
 -- ---- one line
 module _ (line : List ℕ) {r : Bool} (h : r ≡ startsWith runKey line) where
   pub line-run-long : r ≡ true → 4 ≤ length line
   line-run-long e = starts-long runKey line (sym h ∙ e)
 
-  pub line-run : {i : Ranged} {x : Answer ℕ} → r ≡ true → i ≡ byteOf (take (length line - 4) (drop 4 line)) → x ≡ packedOf 0 i (record { refusal = 0; number = 0 }) → x ≡ stepOf line
+  pub line-run : {x : Answer ℕ} → r ≡ true → x ≡ ownOf 0 (take (length line - 4) (drop 4 line)) → x ≡ stepOf line
   unfolding stepOf
-  line-run e p q = let p′ = rw (tail-part line 4) at p in rw (← h, e, ← p′) q
+  line-run e q = rw (← h, e) (rw (tail-part line 4) at q)
 
   module _ (no : r ≡ false) {a : Bool} (g : a ≡ startsWith arriveKey line) where
     pub line-arrive : {x : Answer ℕ} → a ≡ true → x ≡ arrivalOf (fieldsOf (take (length line - 7) (drop 7 line))) → x ≡ stepOf line
     unfolding stepOf
     line-arrive e q = rw (← h, no, ← g, e) (rw (tail-part line 7) at q)
 
-    pub line-other : a ≡ false → refused malformedLine ≡ stepOf line
-    unfolding stepOf
-    line-other e = rw (← h, no, ← g, e)
+    module _ (other : a ≡ false) {b : Bool} (k : b ≡ startsWith timeoutKey line) where
+      pub line-timeout : {x : Answer ℕ} → b ≡ true → x ≡ ownOf 2 (take (length line - 8) (drop 8 line)) → x ≡ stepOf line
+      unfolding stepOf
+      line-timeout e q = rw (← h, no, ← g, other, ← k, e) (rw (tail-part line 8) at q)
+
+      pub line-other : b ≡ false → refused malformedLine ≡ stepOf line
+      unfolding stepOf
+      line-other e = rw (← h, no, ← g, other, ← k, e)
 
 pub line-arrive-long : (line : List ℕ) {a : Bool} → a ≡ startsWith arriveKey line → a ≡ true → 7 ≤ length line
 line-arrive-long line g e = starts-long arriveKey line (sym g ∙ e)
+
+pub line-timeout-long : (line : List ℕ) {b : Bool} → b ≡ startsWith timeoutKey line → b ≡ true → 8 ≤ length line
+line-timeout-long line g e = starts-long timeoutKey line (sym g ∙ e)
 
 -- ---- lines that are steps
 -- one step more is stored behind the others, as long as there is room

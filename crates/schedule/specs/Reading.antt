@@ -1,7 +1,9 @@
--- Steps text (document 01: "Steps: `run=i`, `arrive=i,j`, numbers 0 to 255 (any other: 15); empty text is no steps").
+-- Steps text (document 01: "Steps: `run=i`, `arrive=i,j`, numbers 0 to 255 (any other: 15); empty text is no steps"), with M-102's
+-- `timeout=i`.
 --   malformedLine        document 01's number for a malformed line
 --   byteOf l             l read as a number of 0 to 255
---   packedOf kind i j    the number of the step of a kind, 0 run or 1 arrive, where its owner's and its sender's number were read
+--   packedOf kind i j    the number of the step of a kind, 0 run, 1 arrive or 2 timeout, where its owner's and its sender's number were read
+--   ownOf kind l         what follows `run=` or `timeout=`: a number
 --   arrivalOf fields     what follows `arrive=`: two fields
 --   stepOf line          what a line is, without its byte 10: a step, or refused as malformed
 --   lineOf x             the answer that the code's `Line` stands for: 15, or the step
@@ -42,6 +44,10 @@ packedOf kind i j =
     need (eqb (i .refusal) 0 && eqb (j .refusal) 0) malformedLine
     (done (encode (record { kind = kind; owner = record { 0 = i .number }; from = record { 0 = j .number } })))
 
+-- the sender of a run or a timeout is 0
+unfoldable pub ownOf : ℕ → List ℕ → Answer ℕ
+ownOf kind l = packedOf kind (byteOf l) (record { refusal = 0; number = 0 })
+
 unfoldable pub arrivalOf : List (List ℕ) → Answer ℕ
 arrivalOf fields = need (eqb (length fields) 2) malformedLine (packedOf 1 (byteOf (getD fields 0 [])) (byteOf (getD fields 1 [])))
 
@@ -51,12 +57,15 @@ runKey = bytes "run="
 abbrev pub arriveKey : List ℕ
 arriveKey = bytes "arrive="
 
--- the from of a run is 0
+abbrev pub timeoutKey : List ℕ
+timeoutKey = bytes "timeout="
+
 unfoldable pub stepOf : List ℕ → Answer ℕ
 stepOf line =
-    cond (startsWith runKey line) (packedOf 0 (byteOf (drop 4 line)) (record { refusal = 0; number = 0 }))
+    cond (startsWith runKey line) (ownOf 0 (drop 4 line))
     (cond (startsWith arriveKey line) (arrivalOf (fieldsOf (drop 7 line)))
-    (refused malformedLine))
+    (cond (startsWith timeoutKey line) (ownOf 2 (drop 8 line))
+    (refused malformedLine)))
 
 abbrev pub lineOf : Line → Answer ℕ
 lineOf Malformed = refused malformedLine

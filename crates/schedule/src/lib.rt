@@ -1,8 +1,8 @@
-// Steps text: lines `run=i` and `arrive=i,j`, each ended by byte 10, into the numbers of the steps.
+// Steps text: lines `run=i`, `arrive=i,j` and `timeout=i`, each ended by byte 10, into the numbers of the steps.
 ghost use mathlib.Core.Path.{_≡_};
 ghost use lib.ListN.{set};
 ghost use Rattle.text.specs.Parts.{fieldsOf};
-ghost use Rattle.schedule.specs.Reading.{packedOf, arrivalOf, stepOf, lineOf, refusedText, scheduleOf};
+ghost use Rattle.schedule.specs.Reading.{packedOf, ownOf, arrivalOf, stepOf, lineOf, refusedText, scheduleOf};
 use actions::encode;
 use node::ProcessNumber;
 use node::SCHEDULE_TOO_LONG;
@@ -92,19 +92,30 @@ fn read_line(line: &[u8]) -> Line
     ensures { λ r. ⌜ lineOf r ≡ stepOf (now (line .entry)) ⌝ }
 {
     if text::starts(line, b"run=") {
-        return packed(
-            0,
-            text::read_ranged(&line[4..], 0, 255),
-            Ranged {
-                refusal: 0,
-                number: 0,
-            },
-        );
+        return own(0, &line[4..]);
     }
     if text::starts(line, b"arrive=") {
         return arrival(&line[7..]);
     }
+    if text::starts(line, b"timeout=") {
+        return own(2, &line[8..]);
+    }
     Line::Malformed
+}
+
+// What follows `run=` or `timeout=`.
+fn own(kind: u8, rest: &[u8]) -> Line
+    ensures { λ r. ⌜ lineOf r ≡ ownOf kind (now (rest .entry)) ⌝ }
+{
+    let owner = text::read_ranged(rest, 0, 255);
+    packed(
+        kind,
+        owner,
+        Ranged {
+            refusal: 0,
+            number: 0,
+        },
+    )
 }
 
 // What follows `arrive=`.

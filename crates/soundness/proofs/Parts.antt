@@ -28,7 +28,7 @@ use Rattle.node.specs.Blocks.{blockOf}
 use Rattle.node.specs.Lists.{allFrom, allOf, firsts, rising}
 use Rattle.node.specs.Mailboxes.{messages, noMessage}
 use Rattle.node.specs.Nodes.{flightShelf, mailShelf, noOp, noProcess}
-use Rattle.node.specs.Ops.{clauseOp}
+use Rattle.node.specs.Ops.{isPart}
 use Rattle.node.specs.Rows.{noSignal, signals}
 use Rattle.node.specs.Processes.{linksTo, watchesOver, watchedBy, mailCount}
 use Rattle.node.specs.Sets.{has}
@@ -37,12 +37,12 @@ use Rattle.node.proofs.Good.{sized-node}
 use Rattle.node.proofs.Lists.{allFrom-rising, allOf-append}
 use Rattle.node.proofs.Tests.{within-is}
 use Rattle.node.proofs.Node.{the-type as node-type}
-use Rattle.rules.specs.Behaviours.{Instruction, codeSound, onClause}
+use Rattle.rules.specs.Behaviours.{Instruction, codeSound, onPart}
 use Rattle.rules.specs.Nodes.{behavioursOf, code, live, rowSound, running, runningSound, setOf, shaped, signalSound, sound, standing, standingIn, standingSound, view, viewSound}
 use Rattle.rules.proofs.All.{allOf-at, parts}
 use Rattle.rules.proofs.Shape.{of-sized}
 use Rattle.behaviours.specs.Codes.{codeIn, codesIn}
-use Rattle.behaviours.proofs.Codes.{code-length, codes-at, codes-length, on-clause-at, on-clause-end}
+use Rattle.behaviours.proofs.Codes.{code-length, codes-at, codes-length, on-part-at, on-part-end}
 use Rattle.soundness.specs.Parts.{lengthIn, placeIn, runningTold, standingTold}
 use Rattle.soundness.proofs.Walk.{Blocks, Due, behind, blockSound}
 
@@ -143,14 +143,14 @@ module _ (c : ℕ) (lens : List ℕ) (ops : List Op) (few : c ≤ 8) (all : So (
         let k = length (codeIn n ops b) in
         omega (arith, code-length n ops b, within-is k 1 32 (parts (leb 1 k && leb k 32) _ g .0) .1)
 
-    place-is : (u : Bool) → ltb (p .place) n ≡ u → (leb (p .place) n && not (onClause (codeIn n ops b) (p .place))) ≡ cond u (not (eqb (getD ops (placeIn p) noOp .number) clauseOp)) (eqb (p .place) n)
+    place-is : (u : Bool) → ltb (p .place) n ≡ u → (leb (p .place) n && not (onPart (codeIn n ops b) (p .place))) ≡ cond u (not (isPart (getD ops (placeIn p) noOp .number))) (eqb (p .place) n)
     place-is true e =
         let l = ltb-true (p .place) n e in
         let i : placeIn p ≡ 32 * b + p .place = mod-eq-of-lt (omega (arith, inside, short)) in
-        rw (le-leb (p .place) n (omega arith), i, on-clause-at n ops b (p .place) l)
+        rw (le-leb (p .place) n (omega arith), i, on-part-at n ops b (p .place) l)
     place-is false e =
         let l = ltb-false (p .place) n e in
-        rw (on-clause-end (codeIn n ops b) (p .place) (rw (code-length n ops b) l), and-true) (end-is (p .place) n _ refl l)
+        rw (on-part-end (codeIn n ops b) (p .place) (rw (code-length n ops b) l), and-true) (end-is (p .place) n _ refl l)
 
   -- process p with number i, by what the code looks up for it
   module _ (i : ℕ) (number : isNumber i ≡ true) (p : Process) where

@@ -13,7 +13,7 @@ use Rattle.node.specs.declared.Process.{Process}
 use Rattle.node.specs.declared.Stage.{Stage}
 use Rattle.node.specs.declared.Stage.the-variants.{Unborn, Live, Closing, Gone}
 use Rattle.node.specs.Lists.{allOf}
-use Rattle.node.specs.Ops.{clauseOp}
+use Rattle.node.specs.Ops.{isPart}
 use Rattle.node.specs.Processes.{linksTo, watchesOver, watchedBy}
 use Rattle.node.specs.Values.{valueSound}
 
@@ -23,12 +23,12 @@ lengthIn lens p = getD lens ((p .behaviour .0 - 1) % 8) 0
 abbrev pub placeIn : Process → ℕ
 placeIn p = (32 * (p .behaviour .0 - 1) + p .place) % 256
 
--- a place is before the end of its behaviour, on an op that is no clause, or it is the end
+-- a place is before the end of its behaviour, on an op that is no part of a recv, or it is the end
 unfoldable pub runningTold : ℕ → ℕ → ℕ → Process → Bool
 runningTold c n there p =
     leb 1 (p .behaviour .0) && leb (p .behaviour .0) c
     && allOf valueSound (p .r0 ∷ p .r1 ∷ p .r2 ∷ p .r3 ∷ [])
-    && cond (ltb (p .place) n) (not (eqb there clauseOp)) (eqb (p .place) n)
+    && cond (ltb (p .place) n) (not (isPart there)) (eqb (p .place) n)
 
 abbrev pub standingTold : Stage → ℕ → ℕ → ℕ → ℕ → Process → Bool
 standingTold Unborn c n there i p = true

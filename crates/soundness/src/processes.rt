@@ -1,10 +1,10 @@
 // Processes in their stages, but for their mailboxes.
 ghost use mathlib.Core.Path.{_≡_};
 ghost use Rattle.soundness.specs.Parts.{lengthIn, placeIn, runningTold, standingTold};
-use node::CLAUSE;
 use node::Process;
 use node::ProcessNumber;
 use node::Stage;
+use node::is_part;
 use node::value_sound;
 use node::within;
 
@@ -56,7 +56,7 @@ pub fn running_sound(p: Process, count: u8, lens: [u8; 8], there: u8) -> bool
     if len <= p.place {
         return p.place == len;
     }
-    there != CLAUSE
+    !is_part(there)
 }
 
 // Where the op at the place of a process stands. What is no place of the node's behaviours wraps, so that no read is out of range.

@@ -1,5 +1,5 @@
 -- What a step record means, for every value of its fields: a kind that is no kind, or a number that is no process, is refused with 20. Assumes nothing.
---   meaning-run, meaning-arrive, meaning-none   the action, by the kind
+--   meaning-run, meaning-arrive, meaning-timeout, meaning-none   the action, by the kind
 --   Unnumbered s                                a number that s needs is outside 1 to 16, or its kind is none
 --   step-20, play-20                            such a step is refused with 20, and a schedule that begins with it too
 use mathlib.Core.Bool.{Bool, true, false, _&&_}
@@ -14,7 +14,7 @@ use Rattle.node.specs.declared.Node.{Node}
 use Rattle.node.specs.declared.Step.{Step}
 use Rattle.rules.specs.Answers.{refused}
 use Rattle.rules.specs.Nodes.{Sound}
-use Rattle.rules.specs.Steps.{Action, run, arrive, meaning, numbered, step, played, play}
+use Rattle.rules.specs.Steps.{Action, run, arrive, timeout, meaning, numbered, step, played, play}
 use Rattle.node.specs.Values.{isNumber}
 use Rattle.rules.proofs.Accepted.{step-rule}
 use Rattle.rules.proofs.Paths.{rule-20}
@@ -28,18 +28,22 @@ module _ (s : Step) where
   unfolding meaning
   meaning-arrive h = rw h
 
-  pub meaning-none : 1 < s .kind → meaning s ≡ run 0
+  pub meaning-timeout : s .kind ≡ 2 → meaning s ≡ timeout (s .owner .0)
   unfolding meaning
-  meaning-none h = List·getD-eq-default (run (s .owner .0) ∷ arrive (s .owner .0) (s .from .0) ∷ []) (run 0) h
+  meaning-timeout h = rw h
+
+  pub meaning-none : 2 < s .kind → meaning s ≡ run 0
+  unfolding meaning
+  meaning-none h = List·getD-eq-default (run (s .owner .0) ∷ arrive (s .owner .0) (s .from .0) ∷ timeout (s .owner .0) ∷ []) (run 0) h
 
 -- a number that the step needs is none
 pub data Unnumbered (s : Step) : Type 0 where
-  no-kind : 1 < s .kind → Unnumbered s
+  no-kind : 2 < s .kind → Unnumbered s
   no-owner : isNumber (s .owner .0) ≡ false → Unnumbered s
   no-from : s .kind ≡ 1 → isNumber (s .from .0) ≡ false → Unnumbered s
 
 module _ (s : Step) where
-  none-unnumbered : 1 < s .kind → numbered (meaning s) ≡ false
+  none-unnumbered : 2 < s .kind → numbered (meaning s) ≡ false
   unfolding numbered isNumber
   none-unnumbered h = rw (meaning-none s h)
 
@@ -47,11 +51,12 @@ module _ (s : Step) where
   unfolding numbered
   arrival-numbered h = rw (meaning-arrive s h)
 
-  owner-unnumbered : isNumber (s .owner .0) ≡ false → Dec (s .kind ≡ 0) → Dec (s .kind ≡ 1) → numbered (meaning s) ≡ false
+  owner-unnumbered : isNumber (s .owner .0) ≡ false → Dec (s .kind ≡ 0) → Dec (s .kind ≡ 1) → Dec (s .kind ≡ 2) → numbered (meaning s) ≡ false
   unfolding numbered
-  owner-unnumbered h (yes k) d = rw (meaning-run s k) h
-  owner-unnumbered h (no j) (yes k) = arrival-numbered k ∙ rw h
-  owner-unnumbered h (no j) (no k) = none-unnumbered (omega (arith, j, k))
+  owner-unnumbered h (yes k) d e = rw (meaning-run s k) h
+  owner-unnumbered h (no j) (yes k) e = arrival-numbered k ∙ rw h
+  owner-unnumbered h (no j) (no k) (yes e) = rw (meaning-timeout s e) h
+  owner-unnumbered h (no j) (no k) (no e) = none-unnumbered (omega (arith, j, k, e))
 
   sender-unnumbered : (b : Bool) → isNumber (s .from .0) ≡ false → (b && isNumber (s .from .0)) ≡ false
   sender-unnumbered true h = h
@@ -59,7 +64,7 @@ module _ (s : Step) where
 
   pub unnumbered : Unnumbered s → numbered (meaning s) ≡ false
   unnumbered (no-kind h) = none-unnumbered h
-  unnumbered (no-owner h) = owner-unnumbered h (ℕ-discrete (s .kind) 0) (ℕ-discrete (s .kind) 1)
+  unnumbered (no-owner h) = owner-unnumbered h (ℕ-discrete (s .kind) 0) (ℕ-discrete (s .kind) 1) (ℕ-discrete (s .kind) 2)
   unnumbered (no-from k h) = arrival-numbered k ∙ sender-unnumbered (isNumber (s .owner .0)) h
 
 module _ (n : Node) (s : Step) (sound : Sound n) (u : Unnumbered s) where

@@ -3,8 +3,8 @@
 --   Cleared e      and nothing refuses it but a search that finds no message
 --   turn-refused   a refusal is the rule's;  turn-cleared, turn-searching  without one the decision is cleared
 --   turn-done      a decision that searches no mailbox is committed
---   turn-searched  where the mailbox is searched, the first fit decides
-use mathlib.Core.Bool.{Bool, true, false, not, So, cond, false≢true}
+--   turn-searched  where the mailbox is searched by a run, the first fit decides; late-found, late-missed  by a timeout
+use mathlib.Core.Bool.{Bool, true, false, not, So, cond, _&&_, false≢true}
 use mathlib.Core.List.{List, [], _∷_}
 use mathlib.Core.Logic.{_⊎_, inl, inr, ⊎-elim}
 use mathlib.Core.Option.{Option, none, some}
@@ -13,17 +13,17 @@ use Prim.Native.Nat.{ℕ, _+_, _-_, _*_, _%_, _≤_, _<_, min}
 use native.Mathlib.Decide.{ℕ-discrete}
 use native.Mathlib.Nat.{add-zero}
 use native.Mathlib.Omega.{arith}
-use borrow.Author.Tests.{not-true, not-false, eq-eqb, ne-eqb, eqb-true, eqb-false, leb-true, leb-false, ltb-true, lt-ltb, le-ltb}
-use lib.Dec.{eqb, leb}
-use lib.ListN.{length, getD, take, drop, set, length-take, length-drop, length-set}
+use borrow.Author.Tests.{not-true, not-false, eq-eqb, ne-eqb, eqb-true, eqb-false, leb-true, leb-false, ltb-true, ltb-false, lt-ltb, le-ltb}
+use lib.Dec.{eqb, leb, ltb}
+use lib.ListN.{length, getD, take, drop, set, length-take, length-drop, length-set, List·getD-eq-default}
 use lib.Seq.{getD-take, getD-drop, set-getD}
 use Rattle.actions.specs.declared.Decoded.{Decoded}
 use Rattle.actions.specs.Places.{processAt, rowAt, behaviourAt, opAt}
 use Rattle.actions.proofs.Decoding.{Means}
 use Rattle.decisions.specs.declared.Decision.{Decision}
-use Rattle.decisions.specs.Decided.{decidedOf, pairRefusal, birthRefusal}
-use Rattle.decisions.specs.Answers.{stateOf, refusing, sentOf, bornOf, effectOf, ran, arrived, answerOf}
-use Rattle.decisions.proofs.Meanings.{At, Only, run-means, run-only, arrival-means, arrival-quiet}
+use Rattle.decisions.specs.Decided.{decidedOf, pairRefusal, birthRefusal, timeoutRefusal}
+use Rattle.decisions.specs.Answers.{stateOf, refusing, sentOf, bornOf, effectOf, ran, arrived, expired, answerOf}
+use Rattle.decisions.proofs.Meanings.{At, Only, run-means, run-only, arrival-means, arrival-quiet, timeout-means, timeout-only}
 use Rattle.node.specs.declared.Cell.{Cell}
 use Rattle.node.specs.declared.Message.{Message}
 use Rattle.node.specs.declared.Node.{Node}
@@ -35,18 +35,19 @@ use Rattle.node.specs.declared.Stage.the-variants.{Live}
 use Rattle.node.specs.Blocks.{Shelf, blockOf, changed, joined, up, left, popped, emptied}
 use Rattle.node.specs.Mailboxes.{noMessage, messages, slotOf}
 use Rattle.node.specs.Nodes.{noOp, noProcess, pair, mailShelf, flightShelf}
-use Rattle.node.specs.Ops.{recvOp}
+use Rattle.node.specs.Ops.{recvOp, afterOp}
 use Rattle.node.specs.Processes.{fresh, moved}
 use Rattle.node.specs.Rows.{noSignal, cellOf, oldest}
 use Rattle.node.specs.Values.{pid, isNumber}
 use Rattle.node.proofs.Contents.{messages-length, messages-at, signals-length}
-use Rattle.rules.specs.Answers.{Answer, refused, done, badNumber, ownerUnborn, noneInFlight, noFit, pairFull, notUnborn}
+use Rattle.rules.specs.Answers.{Answer, refused, done, need, badNumber, ownerUnborn, noneInFlight, noFit, pairFull, notUnborn, noTimeout}
 use Rattle.rules.specs.Effects.{State, unchanged, joining, leaving, Effect, Sending, Birth}
 use Rattle.rules.specs.Nodes.{Sound, behavioursOf, code, process, mailbox, row}
 use Rattle.rules.specs.Receive.{Fit, fits, firstClause, search, withMessage, receivesFit, receives}
 use Rattle.rules.specs.Run.{runs}
-use Rattle.rules.specs.Steps.{Action, run, arrive, owner, isUnborn, numbered, ownerBorn, signalWaits, pairHasRoom, numberFree, incoming, decide, withArrival, withSending, withMail}
+use Rattle.rules.specs.Steps.{Action, run, arrive, timeout, owner, isUnborn, numbered, ownerBorn, signalWaits, pairHasRoom, numberFree, incoming, decide, withArrival, withSending, withMail}
 use Rattle.rules.specs.Steps.{withoutMail, withBirth, commit, rule}
+use Rattle.rules.specs.Timeout.{behindClauses, atAfter, expiresIf, expiresLive, expires}
 use Rattle.rules.proofs.Commute.{incoming-oldest}
 use Rattle.receive.proofs.Laws.{message-turn, message-end, clause-hit, clause-miss, clause-end}
 use Rattle.rules.proofs.Living.{alive}
@@ -105,10 +106,16 @@ module _ (n : Node) (p : Process) where
   abbrev pub clausesOf : List Op
   clausesOf = take (getD (n .ops) placeAt noOp .small) (drop (p .place + 1) (code n (p .behaviour .0)))
 
+  -- the op that is read behind them
+  abbrev pub behindOp : Op
+  behindOp = getD (n .ops) (min (min (placeAt + 1 + getD (n .ops) placeAt noOp .small) 256) 255) noOp
+
   pub record Clauses : Type 0 where
     pub size : length clausesOf ≡ getD (n .ops) placeAt noOp .small
     pub within : placeAt + 1 + getD (n .ops) placeAt noOp .small ≤ 256
     pub read : (k : ℕ) → k < length clausesOf → getD (n .ops) (placeAt + 1 + k) noOp ≡ getD clausesOf k noOp
+    pub behind : p .place + 1 + getD (n .ops) placeAt noOp .small < length (code n (p .behaviour .0)) →
+        behindOp ≡ getD (code n (p .behaviour .0)) (p .place + 1 + getD (n .ops) placeAt noOp .small) noOp
 
 module _ (n : Node) (whole : Parts n) (i : ℕ) (number : So (isNumber i)) (live : process n i .stage ≡ Live) where
   abbrev Q : Process
@@ -154,6 +161,10 @@ module _ (n : Node) (whole : Parts n) (i : ℕ) (number : So (isNumber i)) (live
             let f : placeAt n Q + (1 + k) ≡ placeAt n Q + 1 + k = omega arith in
             ap (λ (x : ℕ). getD (n .ops) x noOp) (sym f) ∙ op-is (1 + k) (omega (arith, l, room)) ∙ ap (λ (x : ℕ). getD (code n b) x noOp) e
             ∙ sym (getD-take (o .small) (drop (Q .place + 1) (code n b)) k noOp l ∙ getD-drop (Q .place + 1) (code n b) k noOp);
+        behind = λ h.
+            let e : Q .place + (1 + o .small) ≡ Q .place + 1 + o .small = omega arith in
+            let f : min (min (placeAt n Q + 1 + o .small) 256) 255 ≡ placeAt n Q + (1 + o .small) = omega (arith, known, short, h) in
+            ap (λ (x : ℕ). getD (n .ops) x noOp) f ∙ op-is (1 + o .small) (omega (arith, h)) ∙ ap (λ (x : ℕ). getD (code n b) x noOp) e;
       }
 
 -- without messages no fit is found
@@ -231,7 +242,7 @@ module _ (n : Node) (sound : Sound n) {a : Action} (t : Decoded) (m : Means a t)
     pub number : So (isNumber i)
     pub owned : owner a ≡ i
     pub at : t .at ≡ i - 1
-    pub decided : decide n a ≡ answerOf codeHere i (stateOf P M) e
+    pub decided : decide n a ≡ answerOf (t .expires) codeHere i (stateOf P M) e
     pub only : e .receives ≡ true → Only e × AtRecv codeHere i (stateOf P []) × Stands n P
     pub births : e .spawns ≡ true → t .arrives ≡ false
 
@@ -242,17 +253,18 @@ module _ (n : Node) (sound : Sound n) {a : Action} (t : Decoded) (m : Means a t)
   unfolding Early
   early e k s z r = ((λ h. z (rw s at h)), rw s, r ∙ rw s)
 
+  -- a step of each kind is of process i
+  owned-by : (b c : Bool) → owner (cond b (arrive i j) (cond c (timeout i) (run i))) ≡ i
+  owned-by true c = refl
+  owned-by false true = refl
+  owned-by false false = refl
+
   -- an unborn owner
   asleep : t .bad ≡ false → isUnborn (P .stage) ≡ true → rule n a ≡ refused ownerUnborn
   unfolding ownerBorn
   asleep ok u =
-      let own : (b : Bool) → owner (cond b (arrive i j) (run i)) ≡ i = λ b. owned-by b in
-      let process-is : P ≡ process n (owner a) = rw (m .at ok, m .action ok, own (t .arrives)) in
+      let process-is : P ≡ process n (owner a) = rw (m .at ok, m .action ok, owned-by (t .arrives) (t .expires)) in
       rule-21 n a (not-false (numbered a) (sym (m .bad) ∙ ok)) (rw (← process-is, u))
-    where
-      owned-by : (b : Bool) → owner (cond b (arrive i j) (run i)) ≡ i
-      owned-by true = refl
-      owned-by false = refl
 
   -- ---- 20, 21 and 23 passed
 
@@ -261,11 +273,7 @@ module _ (n : Node) (sound : Sound n) {a : Action} (t : Decoded) (m : Means a t)
     numbers-ok = not-false (numbered a) (sym (m .bad) ∙ ok)
 
     owner-is : owner a ≡ i
-    owner-is = rw (m .action ok) (go (t .arrives))
-      where
-        go : (b : Bool) → owner (cond b (arrive i j) (run i)) ≡ i
-        go true = refl
-        go false = refl
+    owner-is = rw (m .action ok) (owned-by (t .arrives) (t .expires))
 
     at-is : t .at ≡ i - 1
     at-is = m .at ok
@@ -279,6 +287,21 @@ module _ (n : Node) (sound : Sound n) {a : Action} (t : Decoded) (m : Means a t)
 
     number-ok : So (isNumber i)
     number-ok = rw owner-is at (owner-number a numbers-ok)
+
+    -- what is known of every step that comes so far
+    ready-by : (e : Decision) → So (signalWaits n a) → decide n a ≡ answerOf (t .expires) codeHere i (stateOf P M) e →
+        (e .receives ≡ true → Only e × AtRecv codeHere i (stateOf P []) × Stands n P) → (e .spawns ≡ true → t .arrives ≡ false) → Ready e
+    ready-by e waits decided only births = record {
+      numbers = numbers-ok;
+      awake = awake-ok;
+      waits = waits;
+      number = number-ok;
+      owned = owner-is;
+      at = at-is;
+      decided = decided;
+      only = only;
+      births = births;
+    }
 
     none-waits : t .arrives ≡ true → eqb C 0 ≡ true → rule n a ≡ refused noneInFlight
     unfolding signalWaits
@@ -295,18 +318,11 @@ module _ (n : Node) (sound : Sound n) {a : Action} (t : Decoded) (m : Means a t)
         let count : length (row n j i) ≡ C = signals-length (blockOf 4 (pair j i) (flightShelf n)) ∙ rw row-is in
         let waiting : 0 < length (row n j i) = rw count (let z = eqb-false C 0 there in omega arith) in
         let first : incoming n j i ≡ X = incoming-oldest n j i waiting ∙ rw row-is (oldest-at n (pair j i)) in
-        let means : answerOf codeHere i (stateOf P M) e ≡ answerOf codeHere i (stateOf P M) (arrived (t .owner) (t .from) P (length M) X) = rw (s, mail-size) in
-        record {
-          numbers = numbers-ok;
-          awake = awake-ok;
-          waits = rw action (lt-ltb 0 (length (row n j i)) waiting);
-          number = number-ok;
-          owned = owner-is;
-          at = at-is;
-          decided = rw (action, first, ← at-is) (sym (means ∙ arrival-means codeHere (t .owner) (t .from) P M X));
-          only = λ h. absurd (false≢true (sym (arrival-quiet (t .owner) (t .from) P W X .0) ∙ (rw s at h)));
-          births = λ h. absurd (false≢true (sym (arrival-quiet (t .owner) (t .from) P W X .1) ∙ (rw s at h)));
-        }
+        let means : answerOf (t .expires) codeHere i (stateOf P M) e ≡ answerOf false codeHere i (stateOf P M) (arrived (t .owner) (t .from) P (length M) X) = rw (s, mail-size, m .apart arr) in
+        ready-by e (rw action (lt-ltb 0 (length (row n j i)) waiting))
+        (rw (action, first, ← at-is) (sym (means ∙ arrival-means codeHere (t .owner) (t .from) P M X)))
+        (λ h. absurd (false≢true (sym (arrival-quiet (t .owner) (t .from) P W X .0) ∙ (rw s at h))))
+        (λ h. absurd (false≢true (sym (arrival-quiet (t .owner) (t .from) P W X .1) ∙ (rw s at h))))
 
     here : P ≡ process n i
     here = rw at-is
@@ -315,25 +331,31 @@ module _ (n : Node) (sound : Sound n) {a : Action} (t : Decoded) (m : Means a t)
     stands : P .stage ≡ Live → Stands n P
     stands = subst (λ (p : Process). p .stage ≡ Live → Stands n p) (sym here) (stands-in n whole i number-ok)
 
-    run-ready : t .arrives ≡ false → (e : Decision) → e ≡ ran (t .owner) P L O → Ready e
+    timeout-ready : t .arrives ≡ false → t .expires ≡ true → (e : Decision) → e ≡ expired (t .owner) P L O → Ready e
     unfolding signalWaits decide
-    run-ready arr e s =
-        let action : a ≡ run i = m .action ok ∙ rw arr in
-        let answers : (b : List Message) → answerOf codeHere i (stateOf P b) e ≡ runs codeHere i (stateOf P b) = λ b. ap (answerOf codeHere i (stateOf P b)) s
+    timeout-ready arr late e s =
+        let action : a ≡ timeout i = m .action ok ∙ rw (arr, late) in
+        let means = timeout-means codeHere (t .owner) P L O M born stands in
+        let answers : answerOf true codeHere i (stateOf P M) e ≡ expires codeHere (stateOf P M) = ap (answerOf true codeHere i (stateOf P M)) s ∙ means in
+        ready-by e (rw action) (rw (action, ← at-is, late) (sym answers))
+        (λ h.
+        let w = timeout-only (t .owner) P L O (rw s at h) in
+        let there = stands (w .1 .live) in
+        let inside : P .place < length codeHere = rw (there .size) (w .1 .inside) in
+        (subst Only (sym s) (w .0), record { live = w .1 .live; inside = inside; recv = rw (there .op inside) (w .1 .recv) }, there))
+        (λ h. arr)
+
+    run-ready : t .arrives ≡ false → t .expires ≡ false → (e : Decision) → e ≡ ran (t .owner) P L O → Ready e
+    unfolding signalWaits decide
+    run-ready arr early e s =
+        let action : a ≡ run i = m .action ok ∙ rw (arr, early) in
+        let answers : (b : List Message) → answerOf false codeHere i (stateOf P b) e ≡ runs codeHere i (stateOf P b) = λ b. ap (answerOf false codeHere i (stateOf P b)) s
         ∙ run-means codeHere (t .owner) P L O b stands in
-        record {
-          numbers = numbers-ok;
-          awake = awake-ok;
-          waits = rw action;
-          number = number-ok;
-          owned = owner-is;
-          at = at-is;
-          decided = rw (action, ← at-is) (sym (answers M));
-          only = λ h.
-              let recv = only-recv codeHere i (stateOf P []) (sym (answers []) ∙ rw h (none-received codeHere (stateOf P []))) in
-              (subst Only (sym s) (run-only (t .owner) P L O (rw s at h)), recv, stands (recv .live));
-          births = λ h. arr;
-        }
+        ready-by e (rw action) (rw (action, ← at-is, early) (sym (answers M)))
+        (λ h.
+        let recv = only-recv codeHere i (stateOf P []) (sym (answers []) ∙ rw h (none-received codeHere (stateOf P []))) in
+        (subst Only (sym s) (run-only (t .owner) P L O (rw s at h)), recv, stands (recv .live)))
+        (λ h. arr)
 
   -- ---- the decision
 
@@ -350,9 +372,13 @@ module _ (n : Node) (sound : Sound n) {a : Action} (t : Decoded) (m : Means a t)
           inl (early e noneInFlight says (λ z. omega (arith, z)) (none-waits ok born arr q))
       waits false ok born arr q = inr (arrival-ready ok born arr q e (s ∙ rw (ok, born, arr, q)))
 
+      expires : (b : Bool) → (ok : t .bad ≡ false) (born : isUnborn (P .stage) ≡ false) (arr : t .arrives ≡ false) → t .expires ≡ b → Early e ⊎ Ready e
+      expires true ok born arr late = inr (timeout-ready ok born arr late e (s ∙ rw (ok, born, arr, late)))
+      expires false ok born arr late = inr (run-ready ok born arr late e (s ∙ rw (ok, born, arr, late)))
+
       arrives : (b : Bool) → (ok : t .bad ≡ false) (born : isUnborn (P .stage) ≡ false) → t .arrives ≡ b → Early e ⊎ Ready e
       arrives true ok born arr = waits (eqb C 0) ok born arr refl
-      arrives false ok born arr = inr (run-ready ok born arr e (s ∙ rw (ok, born, arr)))
+      arrives false ok born arr = expires (t .expires) ok born arr refl
 
       unborn : (b : Bool) → t .bad ≡ false → isUnborn (P .stage) ≡ b → Early e ⊎ Ready e
       unborn true ok u = inl (early e ownerUnborn (s ∙ rw (ok, u)) (λ z. omega (arith, z)) (asleep ok u))
@@ -391,7 +417,7 @@ module _ (n : Node) (sound : Sound n) {a : Action} (t : Decoded) (m : Means a t)
     unfolding Early
     own-refused z = ⊎-elim (λ w. w .2) (λ w. rule-undecided n a (w .numbers) (w .awake) (w .waits) (e .refusal) (w .decided ∙ go w (e .receives) refl)) (verdict e says)
       where
-        go : Ready e → (b : Bool) → e .receives ≡ b → answerOf codeHere i (stateOf P M) e ≡ refused (e .refusal)
+        go : Ready e → (b : Bool) → e .receives ≡ b → answerOf (t .expires) codeHere i (stateOf P M) e ≡ refused (e .refusal)
         go w true h = absurd (z (w .only h .0 .0))
         go w false h = rw (h, ne-eqb (e .refusal) 0 z)
 
@@ -536,7 +562,7 @@ module _ (n : Node) (sound : Sound n) {a : Action} (t : Decoded) (m : Means a t)
     abbrev pub storedMail : ℕ → Shelf Slot
     storedMail k = record {
       cells = set (up k top (n .slots)) join (slotNext (getD (up k top (n .slots)) join noMessage) e);
-      counts = set (n .waiting) (t .at) (waitingNext W e);
+      counts = set (n .waiting) (t .at) (waitingNext W (ltb k top) e);
     }
 
     abbrev pub storedFlight : Shelf Cell
@@ -551,6 +577,10 @@ module _ (n : Node) (sound : Sound n) {a : Action} (t : Decoded) (m : Means a t)
       pub mail : withMail (mailShelf n) (owner a - 1) (effect .mail) ≡ storedMail k
       pub sent : effect .sent ≡ sentOf e
       pub born : effect .born ≡ bornOf i e
+
+    -- what is known of a refusal k, with a next process and the slot where the search ended
+    abbrev pub Verdict : ℕ → Process → ℕ → Type 0
+    Verdict k next j = ((k ≡ 0 → ⊥) × (rule n a ≡ refused k)) ⊎ ((k ≡ 0) × Committed next j)
 
     no-join : e .joins ≡ false → (l : List Slot) → set l join (slotNext (getD l join noMessage) e) ≡ l
     unfolding slotNext
@@ -594,23 +624,42 @@ module _ (n : Node) (sound : Sound n) {a : Action} (t : Decoded) (m : Means a t)
             → Clauses n p) q (λ l. clauses-in n whole i (cleared-ready .number) l) in
             go P (sym same) (at-recv .live) (at-recv .inside) (at-recv .recv)
 
-        pub turn-searched : rule n a ≡ searched n a P (search (clausesOf n P) 0 M)
-        unfolding receives pairHasRoom numberFree
-        turn-searched =
-            let w = cleared-ready in
-            let op : getD codeHere (P .place) noOp ≡ O = w .only h .2 .op (at-recv .inside) in
-            let answer : decide n a ≡ receivesFit (stateOf P M) (search (clausesOf n P) 0 M) = w .decided ∙ rw (h, op) in
-            go (search (clausesOf n P) 0 M) answer
+        -- the op at the place
+        op-here : getD codeHere (P .place) noOp ≡ O
+        op-here = cleared-ready .only h .2 .op (at-recv .inside)
+
+        pub search-decided : t .expires ≡ false → decide n a ≡ receivesFit (stateOf P M) (search (clausesOf n P) 0 M)
+        unfolding receives
+        search-decided early = cleared-ready .decided ∙ rw (h, early, op-here)
+
+        pub turn-searched : t .expires ≡ false → rule n a ≡ searched n a P (search (clausesOf n P) 0 M)
+        unfolding pairHasRoom numberFree
+        turn-searched early = go (search (clausesOf n P) 0 M) (search-decided early)
           where
             go : (f : Option Fit) → decide n a ≡ receivesFit (stateOf P M) f → rule n a ≡ searched n a P f
             go none q = rule-undecided n a (cleared-ready .numbers) (cleared-ready .awake) (cleared-ready .waits) noFit q
             go (some f) q = rule-done n a (cleared-ready .numbers) (cleared-ready .awake) (cleared-ready .waits) _ q refl refl
 
-        pub search-decided : decide n a ≡ receivesFit (stateOf P M) (search (clausesOf n P) 0 M)
-        unfolding receives
-        search-decided =
-            let op : getD codeHere (P .place) noOp ≡ O = cleared-ready .only h .2 .op (at-recv .inside) in
-            cleared-ready .decided ∙ rw (h, op)
+        -- a timeout: the search gives f
+        late-decided : t .expires ≡ true → (f : Option Fit) → search (clausesOf n P) 0 M ≡ f → decide n a
+            ≡ need (atAfter codeHere (P .place)) noTimeout (expiresIf (stateOf P M) (behindClauses codeHere (P .place)) f)
+        unfolding expiresLive
+        late-decided late f is = cleared-ready .decided ∙ rw (h, late, op-here, is)
+
+        -- whether an `after` stands behind the clauses is what is read there
+        after-read : atAfter codeHere (P .place) ≡ (ltb (P .place + 1 + O .small) L && eqb (behindOp n P .number) afterOp)
+        unfolding atAfter
+        after-read = rw (eq-eqb (getD codeHere (P .place) noOp .number) recvOp (at-recv .recv), op-here) (go (ltb (P .place + 1 + O .small) L) refl)
+          where
+            go : (b : Bool) → ltb (P .place + 1 + O .small) L ≡ b → eqb (getD codeHere (P .place + 1 + O .small) noOp .number) afterOp ≡ (b && eqb (behindOp n P .number) afterOp)
+            go true l = ap (λ (o : Op). eqb (o .number) afterOp) (sym (clauses .behind (rw (cleared-ready .only h .2 .size) (ltb-true (P .place + 1 + O .small) L l))))
+            go false l =
+                let past : length codeHere ≤ P .place + 1 + O .small = rw (cleared-ready .only h .2 .size) (ltb-false (P .place + 1 + O .small) L l) in
+                ap (λ (o : Op). eqb (o .number) afterOp) (List·getD-eq-default codeHere noOp {n = P .place + 1 + O .small} past)
+
+        pub late-refused : t .expires ≡ true → (f : Option Fit) → search (clausesOf n P) 0 M ≡ f →
+            need (atAfter codeHere (P .place)) noTimeout (expiresIf (stateOf P M) (behindClauses codeHere (P .place)) f) ≡ refused noTimeout → rule n a ≡ refused noTimeout
+        late-refused late f is r = rule-undecided n a (cleared-ready .numbers) (cleared-ready .awake) (cleared-ready .waits) noTimeout (late-decided late f is ∙ r)
 
       -- ---- the mail
 
@@ -626,18 +675,27 @@ module _ (n : Node) (sound : Sound n) {a : Action} (t : Decoded) (m : Means a t)
       mail-room : Room 16 (t .at) (mailShelf n)
       mail-room = record { cells = rw (sizes .mail .cells) (let x = at-bound in omega arith); counts = rw (sizes .mail .counts) at-bound }
 
+      -- no message joins, and none leaves
+      mail-same : e .joins ≡ false → (k : ℕ) → top ≤ k → mailShelf n ≡ storedMail k
+      unfolding searchedOf waitingNext slotNext
+      mail-same h k above =
+          let same : up k top (n .slots) ≡ n .slots = up-end k top (n .slots) (omega (arith, above)) in
+          let cells : set (up k top (n .slots)) join (slotNext (getD (up k top (n .slots)) join noMessage) e) ≡ n .slots = rw same (no-join h (n .slots)) in
+          let counts : set (n .waiting) (t .at) (waitingNext W (ltb k top) e) ≡ n .waiting = rw (h, le-ltb k top above) (set-getD (n .waiting) (t .at) 0) in
+          λ x. record { cells = sym cells x; counts = sym counts x }
+
       mail-quiet : e .receives ≡ false → (b : Bool) → e .joins ≡ b → withMail (mailShelf n) (owner a - 1) (cond b (joining (e .message)) unchanged) ≡ storedMail (16 * t .at)
       unfolding searchedOf waitingNext slotNext
       mail-quiet q b h = go b h
         where
+          above : top ≤ 16 * t .at
+          above = let x : top ≡ 16 * t .at + 0 = rw q in omega (arith, x)
+
           same : up (16 * t .at) top (n .slots) ≡ n .slots
-          same = let x : top ≡ 16 * t .at + 0 = rw q in up-end (16 * t .at) top (n .slots) (omega (arith, x))
+          same = up-end (16 * t .at) top (n .slots) (omega (arith, above))
 
           go : (b : Bool) → e .joins ≡ b → withMail (mailShelf n) (owner a - 1) (cond b (joining (e .message)) unchanged) ≡ storedMail (16 * t .at)
-          go false h =
-              let cells : set (up (16 * t .at) top (n .slots)) join (slotNext (getD (up (16 * t .at) top (n .slots)) join noMessage) e) ≡ n .slots = rw same (no-join h (n .slots)) in
-              let counts : set (n .waiting) (t .at) (waitingNext W e) ≡ n .waiting = rw (h, q) (set-getD (n .waiting) (t .at) 0) in
-              λ x. record { cells = sym cells x; counts = sym counts x }
+          go false h = mail-same h (16 * t .at) above
           go true h =
               let room : length (mailbox n (owner a)) < 16 = rw h at (keeps (clear .refusal) q .mail) in
               let few : W < 16 = rw (← owner-at) (rw (messages-length (blockOf 16 (owner a - 1) (mailShelf n))) at room) in
@@ -645,7 +703,7 @@ module _ (n : Node) (sound : Sound n) {a : Action} (t : Decoded) (m : Means a t)
               let cells : set (n .slots) (16 * t .at + W) (slotOf (e .message)) ≡ set (up (16 * t .at) top (n .slots)) join (slotNext (getD (up (16 * t .at) top (n .slots)) join noMessage) e) = rw
               (same, h, place) in
               let more : W + 1 ≡ min (W + 1) 255 = omega (arith, few) in
-              let counts : set (n .waiting) (t .at) (W + 1) ≡ set (n .waiting) (t .at) (waitingNext W e) = rw (h, ← more) in
+              let counts : set (n .waiting) (t .at) (W + 1) ≡ set (n .waiting) (t .at) (waitingNext W (ltb (16 * t .at) top) e) = rw (h, ← more) in
               ap (λ (k : ℕ). changed 16 (joined (slotOf (e .message))) k (mailShelf n)) owner-at
               ∙ store-joined noMessage 16 (t .at) (mailShelf n) mail-room (slotOf (e .message)) few (omega (arith, few))
               ∙ (λ x. record { cells = cells x; counts = counts x })
@@ -661,23 +719,25 @@ module _ (n : Node) (sound : Sound n) {a : Action} (t : Decoded) (m : Means a t)
         born = refl;
       }
 
-      pub committed-found : (h : e .receives ≡ true) (f : Fit) → search (clausesOf n P) 0 M ≡ some f → Committed (moved (withMessage P (f .clause) (f .message)) (f .clause .target))
-          (16 * t .at + f .index)
+      pub committed-found : (h : e .receives ≡ true) → t .expires ≡ false → (f : Fit) → search (clausesOf n P) 0 M ≡ some f →
+          Committed (moved (withMessage P (f .clause) (f .message)) (f .clause .target)) (16 * t .at + f .index)
       unfolding searchedOf waitingNext
-      committed-found h f found =
+      committed-found h early f found =
           let effect : Effect = record { process = moved (withMessage P (f .clause) (f .message)) (f .clause .target); mail = leaving (f .index); sent = none; born = none } in
           let only = searches (clear .refusal) h in
-          let kept = decided-keeps n a effect whole (cleared-ready .numbers) (cleared-ready .waits) (search-decided h ∙ rw found) in
+          let kept = decided-keeps n a effect whole (cleared-ready .numbers) (cleared-ready .waits) (search-decided h early ∙ rw found) in
           let few : W ≤ 16 = rw (← owner-at) (rw (messages-length (blockOf 16 (owner a - 1) (mailShelf n))) at (kept .mail .1)) in
           let here : 16 * t .at + W ≡ top = let x : top ≡ 16 * t .at + min W 16 = rw h in omega (arith, few, x) in
           let j = 16 * t .at + f .index in
           let cells : up j (16 * t .at + W) (n .slots) ≡ set (up j top (n .slots)) join (slotNext (getD (up j top (n .slots)) join noMessage) e) = rw here
           (sym (no-join (only .1) (up j top (n .slots)))) in
-          let counts : set (n .waiting) (t .at) (W - 1) ≡ set (n .waiting) (t .at) (waitingNext W e) = rw (only .1, h) in
+          let size : length (mailbox n (owner a)) ≡ W = rw owner-at mail-size in
+          let inside : f .index < W = rw size at (kept .mail .0) in
+          let counts : set (n .waiting) (t .at) (W - 1) ≡ set (n .waiting) (t .at) (waitingNext W (ltb j top) e) = rw (only .1, lt-ltb j top (omega (arith, inside, here))) in
           record {
             cleared = clear;
             effect = effect;
-            answer = turn-searched h ∙ rw found;
+            answer = turn-searched h early ∙ rw found;
             process = refl;
             mail =
                 ap (λ (k : ℕ). changed 16 (left (f .index)) k (mailShelf n)) owner-at
@@ -686,6 +746,37 @@ module _ (n : Node) (sound : Sound n) {a : Action} (t : Decoded) (m : Means a t)
             sent = rw (only .2);
             born = rw (only .3);
           }
+
+      -- a timeout, where no message fits: it is refused, or the process moves to the target of the `after`
+      pub late-missed : (h : e .receives ≡ true) → t .expires ≡ true → search (clausesOf n P) 0 M ≡ none → (s : ℕ) → top ≤ s →
+          Verdict (timeoutRefusal noFit (P .place) (O .small) L (behindOp n P)) (moved P (behindOp n P .target)) s
+      unfolding timeoutRefusal pairHasRoom numberFree
+      late-missed h late missed s above = go (ltb (P .place + 1 + O .small) L) refl (eqb (behindOp n P .number) afterOp) refl
+        where
+          none-there : (ltb (P .place + 1 + O .small) L && eqb (behindOp n P .number) afterOp) ≡ false → rule n a ≡ refused noTimeout
+          none-there q = late-refused h late none missed (rw (after-read h, q))
+
+          go : (b : Bool) → ltb (P .place + 1 + O .small) L ≡ b → (c : Bool) → eqb (behindOp n P .number) afterOp ≡ c → Verdict (cond (b && c) 0 noTimeout) (moved P (behindOp n P .target)) s
+          go false l c f = inl ((λ z. omega (arith, z)), none-there (rw l))
+          go true l false f = inl ((λ z. omega (arith, z)), none-there (rw (l, f)))
+          go true l true f =
+              let only = searches (clear .refusal) h in
+              let effect : Effect = record { process = moved P (behindOp n P .target); mail = unchanged; sent = none; born = none } in
+              let there : behindClauses codeHere (P .place) ≡ behindOp n P = rw (op-here h)
+              (sym (clauses h .behind (rw (cleared-ready .only h .2 .size) (ltb-true (P .place + 1 + O .small) L l)))) in
+              let decided : decide n a ≡ done effect = late-decided h late none missed ∙ rw (after-read h, l, f, there) in
+              inr (
+                refl,
+                record {
+                  cleared = clear;
+                  effect = effect;
+                  answer = rule-done n a (cleared-ready .numbers) (cleared-ready .awake) (cleared-ready .waits) effect decided refl refl;
+                  process = refl;
+                  mail = mail-same (only .1) s above;
+                  sent = rw (only .2);
+                  born = rw (only .3);
+                },
+              )
 
       -- who searches is live, and has at most 16 messages
       pub waiting-bound : e .receives ≡ true → W ≤ 16
@@ -776,8 +867,13 @@ module _ (n : Node) (sound : Sound n) {a : Action} (t : Decoded) (m : Means a t)
 
         flight-stored : t .arrives ≡ false → storedFlight ≡ withSending (withArrival (flightShelf n) a) (owner a) (w .effect .sent)
         flight-stored arr =
-            let action : a ≡ run i = m .action ok ∙ rw arr in
-            sym (ap (λ (s : Shelf Cell). withSending s (owner a) (w .effect .sent)) (ap (withArrival (flightShelf n)) action) ∙ ap (withSending (flightShelf n) (owner a)) (w .sent) ∙ sent-stored)
+            let action : a ≡ cond (t .expires) (timeout i) (run i) = m .action ok ∙ rw arr in
+            let kept = ap (withArrival (flightShelf n)) action ∙ no-arrival (t .expires) in
+            sym (ap (λ (s : Shelf Cell). withSending s (owner a) (w .effect .sent)) kept ∙ ap (withSending (flightShelf n) (owner a)) (w .sent) ∙ sent-stored)
+          where
+            no-arrival : (b : Bool) → withArrival (flightShelf n) (cond b (timeout i) (run i)) ≡ flightShelf n
+            no-arrival true = refl
+            no-arrival false = refl
 
         pub stored-run : t .arrives ≡ false → e .spawns ≡ false → made n (set (n .processes) (t .at) next) (storedMail k) storedFlight ≡ commit n a (w .effect)
         unfolding commit
@@ -835,10 +931,6 @@ module _ (n : Node) (sound : Sound n) {a : Action} (t : Decoded) (m : Means a t)
     abbrev pub AtClause : ℕ → ℕ → Message → Type 0
     AtClause k c x = firstFit ≡ firstClause (drop c (clausesOf n P)) k x (search (clausesOf n P) (k + 1) (drop (k + 1) M))
 
-    -- what is known of a refusal k, with a next process and the slot where the search ended
-    abbrev pub Verdict : ℕ → Process → ℕ → Type 0
-    Verdict k next j = ((k ≡ 0 → ⊥) × (rule n a ≡ refused k)) ⊎ ((k ≡ 0) × Committed next j)
-
     -- a slot is looked at only where the mailbox is searched
     looked : (k : ℕ) → 16 * t .at ≤ k → k < top → e .receives ≡ true
     unfolding searchedOf
@@ -885,13 +977,27 @@ module _ (n : Node) (sound : Sound n) {a : Action} (t : Decoded) (m : Means a t)
       later = search (clausesOf n P) (s - 16 * t .at + 1) (drop (s - 16 * t .at + 1) M)
 
       module _ (high : c < min (placeAt n P + 1 + O .small) 256) where
-        pub found : fits (getD (n .ops) c noOp) msg ≡ true → AtClause (s - 16 * t .at) (c - (placeAt n P + 1)) msg
+        fit-here : fits (getD (n .ops) c noOp) msg ≡ true → AtClause (s - 16 * t .at) (c - (placeAt n P + 1)) msg
+            → firstFit ≡ some (record { index = s - 16 * t .at; message = msg; clause = getD (clausesOf n P) (c - (placeAt n P + 1)) noOp })
+        fit-here f v = let r = clause-read s c from below low high in clause-hit (clausesOf n P) (s - 16 * t .at) (c - (placeAt n P + 1)) msg later (r .0) (rw (r .1) at f) v
+
+        -- by a timeout
+        pub late-found : t .expires ≡ true → fits (getD (n .ops) c noOp) msg ≡ true → AtClause (s - 16 * t .at) (c - (placeAt n P + 1)) msg → rule n a ≡ refused noTimeout
+        late-found late f v =
+            let q = looked s from below in
+            late-refused (turn-searching q) q late (some _) (fit-here f v) (either (atAfter codeHere (P .place)))
+          where
+            either : (b : Bool) → need {A = Effect} b noTimeout (refused noTimeout) ≡ refused noTimeout
+            either true = refl
+            either false = refl
+
+        -- by a run
+        pub found : t .expires ≡ false → fits (getD (n .ops) c noOp) msg ≡ true → AtClause (s - 16 * t .at) (c - (placeAt n P + 1)) msg
             → Committed (moved (withMessage P (getD (n .ops) c noOp) msg) (getD (n .ops) c noOp .target)) s
-        found f v =
+        found early f v =
             let r = clause-read s c from below low high in
             let q = looked s from below in
-            let hit = clause-hit (clausesOf n P) (s - 16 * t .at) (c - (placeAt n P + 1)) msg later (r .0) (rw (r .1) at f) v in
-            let done-at = committed-found (turn-searching q) q _ hit in
+            let done-at = committed-found (turn-searching q) q early _ (fit-here f v) in
             subst (λ (o : Op). Committed (moved (withMessage P o msg) (o .target)) s) (sym (r .1)) (subst (Committed _) (looked-bound s from below .2) done-at)
 
         pub missed : fits (getD (n .ops) c noOp) msg ≡ false → AtClause (s - 16 * t .at) (c - (placeAt n P + 1)) msg → AtClause (s - 16 * t .at) (c + 1 - (placeAt n P + 1)) msg
@@ -908,14 +1014,20 @@ module _ (n : Node) (sound : Sound n) {a : Action} (t : Decoded) (m : Means a t)
           rw e at (clause-end (clausesOf n P) (s - 16 * t .at) (c - (placeAt n P + 1)) msg later all v)
 
     -- no message was found
-    pub unfound : (q : e .receives ≡ true) (s : ℕ) → top ≤ s → AtMessage (s - 16 * t .at) → rule n a ≡ refused noFit
+    none-fits : (q : e .receives ≡ true) (s : ℕ) → top ≤ s → AtMessage (s - 16 * t .at) → firstFit ≡ none
     unfolding searchedOf
-    unfound q s above v =
+    none-fits q s above v =
         let x : top ≡ 16 * t .at + min W 16 = rw q in
         let few : W ≤ 16 = waiting-bound (turn-searching q) q in
         let all : length M ≤ s - 16 * t .at = rw mail-size (omega (arith, x, few, above)) in
-        let none-fits : firstFit ≡ none = message-end M (clausesOf n P) (s - 16 * t .at) (noMessage .message) all v in
-        turn-searched (turn-searching q) q ∙ rw none-fits
+        message-end M (clausesOf n P) (s - 16 * t .at) (noMessage .message) all v
+
+    pub unfound : (q : e .receives ≡ true) → t .expires ≡ false → (s : ℕ) → top ≤ s → AtMessage (s - 16 * t .at) → rule n a ≡ refused noFit
+    unfound q early s above v = turn-searched (turn-searching q) q early ∙ rw (none-fits q s above v)
+
+    pub late-unfound : (q : e .receives ≡ true) → t .expires ≡ true → (s : ℕ) → top ≤ s → AtMessage (s - 16 * t .at) →
+        Verdict (timeoutRefusal noFit (P .place) (O .small) L (behindOp n P)) (moved P (behindOp n P .target)) s
+    late-unfound q late s above v = late-missed (turn-searching q) q late (none-fits q s above v) s above
 
     -- nothing was looked for
     pub unsought : e .receives ≡ false → (k : ℕ) → Judges k → Verdict k (e .process) (16 * t .at)

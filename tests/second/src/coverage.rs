@@ -4,7 +4,7 @@ use crate::node::{
     Clause, Live, Message, Node, Op, Pattern, Signal, Stage, Value, MAILBOX_LIMIT, NOPROC,
     PAIR_LIMIT, PROCESSES,
 };
-use crate::plan::{op_word, OPERANDS};
+use crate::plan::{self, op_word, Fault, Misplaced, OPERANDS};
 use crate::step::{self, Effect, Step};
 use crate::steps::LINE_LIMIT;
 use crate::text::Refused;
@@ -12,7 +12,9 @@ use std::collections::BTreeMap;
 use std::fmt;
 
 /// Every refusal number that the program can tell.
-pub const REFUSALS: [u8; 15] = [10, 11, 12, 13, 14, 15, 20, 21, 22, 23, 24, 25, 26, 27, 32];
+pub const REFUSALS: [u8; 16] = [
+    10, 11, 12, 13, 14, 15, 20, 21, 22, 23, 24, 25, 26, 27, 28, 32,
+];
 
 /// The stages; an unborn process is counted where a listing leaves it out.
 pub const STAGES: [&str; 4] = ["unborn", "live", "closing", "gone"];
@@ -29,7 +31,7 @@ pub const SIGNALS: [&str; 7] = [
 ];
 
 /// Finer events, in the order of the table. A count of an event that is not here is a mistake.
-pub const DETAILS: [&str; 117] = [
+pub const DETAILS: [&str; 148] = [
     "run at place N",
     "closing told a link",
     "closing told a watcher",
@@ -76,6 +78,14 @@ pub const DETAILS: [&str; 117] = [
     "clause down passed over a note",
     "clause exact value passed over a down",
     "recv passed over a message",
+    "recv with after took a message",
+    "timeout with empty mail",
+    "timeout with mail that does not fit",
+    "timeout at a full mailbox",
+    "timeout of a recv with 8 clauses",
+    "timeout by the last op of a code",
+    "timeout to place N",
+    "timeout back to its own recv",
     "msg joined",
     "link added",
     "link at a full mailbox",
@@ -113,17 +123,32 @@ pub const DETAILS: [&str; 117] = [
     "line 5, linked 1",
     "line 5, linked 1, a1",
     "line 5, a0 from itself",
+    "14 recv without its clauses",
+    "14 recv with an after between its clauses",
+    "14 recv with an after for its last clause",
+    "14 stray clause",
+    "14 stray after",
+    "14 second after",
+    "14 target on a clause, from an op",
+    "14 target on a clause, from a clause",
+    "14 target on a clause, from an after",
+    "14 target on an after, from an op",
+    "14 target on an after, from a clause",
+    "14 target on an after, from an after",
     "20 run",
     "20 arrive, owner",
     "20 arrive, sender",
+    "20 timeout",
     "21 run",
     "21 arrive, none in flight",
     "21 arrive, signal waits",
+    "21 timeout",
     "24 msg",
     "24 note",
     "24 down",
     "25 empty mailbox",
     "25 mail without a fit",
+    "25 at a recv with after",
     "26 send",
     "26 exit",
     "26 link",
@@ -137,6 +162,14 @@ pub const DETAILS: [&str; 117] = [
     "26 pair with itself",
     "27 itself",
     "27 another",
+    "28 closing",
+    "28 gone",
+    "28 at place N",
+    "28 at another op",
+    "28 recv without after",
+    "28 recv that ends its code",
+    "28 first message fits",
+    "28 later message fits",
     "listing with mail=16",
     "listing with a note",
     "listing with a down",
@@ -149,7 +182,8 @@ pub const DETAILS: [&str; 117] = [
     "play of 4,096 steps accepted",
 ];
 
-/// The counters. Ops are counted when they ran; clause is counted when it took a message.
+/// The counters. Ops are counted when they ran; clause is counted when it took a message, after when
+/// a timeout went to its t.
 #[derive(Clone, Debug)]
 pub struct Coverage {
     pub ops: BTreeMap<&'static str, u64>,
@@ -186,9 +220,34 @@ impl Coverage {
         Coverage::default()
     }
 
-    pub fn count_load_refusal(&mut self, refused: &Refused) {
+    pub fn count_load_refusal(&mut self, plan: &[u8], refused: &Refused) {
         self.cases += 1;
         self.refusal(refused.number);
+        if let Some(misplaced) = plan::misplaced(plan) {
+            self.count_misplaced(&misplaced);
+        }
+    }
+
+    /// A fault is counted where it alone is why the line is told: with a second one beside it, a
+    /// loader that misses the first tells the same.
+    fn count_misplaced(&mut self, misplaced: &Misplaced) {
+        let &[fault] = &misplaced.faults[..] else {
+            return;
+        };
+        self.detail(match (fault, misplaced.op) {
+            (Fault::LacksClauses, _) => "14 recv without its clauses",
+            (Fault::AfterBetweenClauses, _) => "14 recv with an after between its clauses",
+            (Fault::AfterForLastClause, _) => "14 recv with an after for its last clause",
+            (Fault::StrayClause, _) => "14 stray clause",
+            (Fault::StrayAfter, _) => "14 stray after",
+            (Fault::SecondAfter, _) => "14 second after",
+            (Fault::TargetOnClause, Op::Clause(_)) => "14 target on a clause, from a clause",
+            (Fault::TargetOnClause, Op::After(_)) => "14 target on a clause, from an after",
+            (Fault::TargetOnClause, _) => "14 target on a clause, from an op",
+            (Fault::TargetOnAfter, Op::Clause(_)) => "14 target on an after, from a clause",
+            (Fault::TargetOnAfter, Op::After(_)) => "14 target on an after, from an after",
+            (Fault::TargetOnAfter, _) => "14 target on an after, from an op",
+        });
     }
 
     pub fn count_steps_refusal(&mut self, refused: &Refused) {
@@ -333,10 +392,19 @@ impl Coverage {
                 clause,
                 message,
                 index,
+                after,
             } => {
                 let passed = &node.live(owner).mailbox[..index];
                 self.count_received(clause, message, passed);
+                self.detail_if(after, "recv with after took a message");
             }
+            Effect::TimedOut { place } => self.count_timeout(node, owner, place),
+            _ => self.count_arrival(node, owner, effect),
+        }
+    }
+
+    fn count_arrival(&mut self, node: &Node, owner: u8, effect: Effect) {
+        match effect {
             Effect::DroppedAtEnded(signal) => self.count_dropped(signal),
             Effect::DroppedUnwatched => {
                 let full = node.live(owner).mailbox.len() == MAILBOX_LIMIT;
@@ -355,13 +423,7 @@ impl Coverage {
                 from_link,
                 trap,
             } => {
-                self.exit_lines[usize::from(line) - 1] += 1;
-                let full = match node.stage(owner) {
-                    Stage::Live(live) => live.mailbox.len() == MAILBOX_LIMIT,
-                    _ => false,
-                };
-                self.detail_if(full && line == 1, "line 1 at a full mailbox");
-                self.detail_if(full && line == 4, "line 4 at a full mailbox");
+                self.count_exit_line(node, owner, line);
                 match line {
                     1 => {}
                     2 if trap => self.detail("line 2, trap 1"),
@@ -370,7 +432,41 @@ impl Coverage {
                     _ => self.count_exit(line, from_link, reason),
                 }
             }
+            other => panic!("{other:?} is no effect of an arrival"),
         }
+    }
+
+    fn count_exit_line(&mut self, node: &Node, owner: u8, line: u8) {
+        self.exit_lines[usize::from(line) - 1] += 1;
+        let full = match node.stage(owner) {
+            Stage::Live(live) => live.mailbox.len() == MAILBOX_LIMIT,
+            _ => false,
+        };
+        self.detail_if(full && line == 1, "line 1 at a full mailbox");
+        self.detail_if(full && line == 4, "line 4 at a full mailbox");
+    }
+
+    /// A timeout moved the owner away from, or back to, the recv at this place.
+    fn count_timeout(&mut self, node: &Node, owner: u8, place: usize) {
+        let live = node.live(owner);
+        let code = node.code(live.behaviour);
+        let Op::Recv(count) = code[place] else {
+            panic!("a timeout at {:?}", code[place]);
+        };
+        let after = place + count + 1;
+        self.count_word(code[after]);
+        self.detail(if live.mailbox.is_empty() {
+            "timeout with empty mail"
+        } else {
+            "timeout with mail that does not fit"
+        });
+        let full = live.mailbox.len() == MAILBOX_LIMIT;
+        self.detail_if(full, "timeout at a full mailbox");
+        self.detail_if(count == 8, "timeout of a recv with 8 clauses");
+        let last = after + 1 == code.len();
+        self.detail_if(last, "timeout by the last op of a code");
+        self.detail_if(live.place == code.len(), "timeout to place N");
+        self.detail_if(live.place == place, "timeout back to its own recv");
     }
 
     fn count_word(&mut self, op: Op) {
@@ -574,23 +670,8 @@ impl Coverage {
     fn count_step_refusal(&mut self, node: &Node, step: Step, number: u8) {
         self.refusal(number);
         match (number, step) {
-            (step::BAD_NUMBER, Step::Run(_)) => self.detail("20 run"),
-            (step::BAD_NUMBER, Step::Arrive { to, .. }) => {
-                let owner_known = (1..=PROCESSES).contains(&to);
-                self.detail(if owner_known {
-                    "20 arrive, sender"
-                } else {
-                    "20 arrive, owner"
-                });
-            }
-            (step::OWNER_UNBORN, Step::Run(_)) => self.detail("21 run"),
-            (step::OWNER_UNBORN, Step::Arrive { to, from }) => {
-                self.detail(if node.flight(from, to).is_empty() {
-                    "21 arrive, none in flight"
-                } else {
-                    "21 arrive, signal waits"
-                });
-            }
+            (step::BAD_NUMBER, _) => self.count_bad_number(step),
+            (step::OWNER_UNBORN, _) => self.count_unborn_owner(node, step),
             (step::MAILBOX_FULL, Step::Arrive { to, from }) => {
                 let first = node.flight(from, to).first();
                 self.detail(match first {
@@ -606,8 +687,69 @@ impl Coverage {
             (step::NO_FIT | step::PAIR_FULL | step::NOT_UNBORN, Step::Run(process)) => {
                 self.count_run_refusal(node, process);
             }
+            (step::NO_TIMEOUT, _) => self.count_timeout_refusal(node, step.owner()),
             _ => {}
         }
+    }
+
+    fn count_bad_number(&mut self, step: Step) {
+        self.detail(match step {
+            Step::Run(_) => "20 run",
+            Step::Arrive { to, .. } if (1..=PROCESSES).contains(&to) => "20 arrive, sender",
+            Step::Arrive { .. } => "20 arrive, owner",
+            Step::Timeout(_) => "20 timeout",
+        });
+    }
+
+    fn count_unborn_owner(&mut self, node: &Node, step: Step) {
+        self.detail(match step {
+            Step::Run(_) => "21 run",
+            Step::Arrive { to, from } if node.flight(from, to).is_empty() => {
+                "21 arrive, none in flight"
+            }
+            Step::Arrive { .. } => "21 arrive, signal waits",
+            Step::Timeout(_) => "21 timeout",
+        });
+    }
+
+    /// Counts a 28 by what stands against the timeout. A recv without `after` is counted where no
+    /// message fits, because one that fits would be reason enough.
+    fn count_timeout_refusal(&mut self, node: &Node, process: u8) {
+        let live = match node.stage(process) {
+            Stage::Live(live) => live,
+            Stage::Closing(_) => return self.detail("28 closing"),
+            Stage::Unborn | Stage::Gone => return self.detail("28 gone"),
+        };
+        let length = node.code(live.behaviour).len();
+        let Some(Op::Recv(count)) = node.current_op(process) else {
+            return self.detail(if live.place == length {
+                "28 at place N"
+            } else {
+                "28 at another op"
+            });
+        };
+        let awaited = step::awaited(node, process).expect("a process at a recv");
+        match (awaited.after, awaited.fit) {
+            (Some(_), Some(0)) => self.detail("28 first message fits"),
+            (Some(_), Some(_)) => self.detail("28 later message fits"),
+            (Some(_), None) => panic!("28 where nothing stands against the timeout"),
+            (None, None) => {
+                self.detail("28 recv without after");
+                let ends = live.place + count + 1 == length;
+                self.detail_if(ends, "28 recv that ends its code");
+            }
+            (None, Some(_)) => {}
+        }
+    }
+
+    fn count_no_fit(&mut self, node: &Node, process: u8) {
+        self.detail(if node.live(process).mailbox.is_empty() {
+            "25 empty mailbox"
+        } else {
+            "25 mail without a fit"
+        });
+        let awaited = step::awaited(node, process).expect("a process at a recv");
+        self.detail_if(awaited.after.is_some(), "25 at a recv with after");
     }
 
     /// Counts a refusal of 25, 26 or 27 by the op, or the closing process, that met it.
@@ -623,8 +765,7 @@ impl Coverage {
         let live = node.live(process);
         let own = |r: usize| live.registers[r] == Value::Pid(process);
         match node.current_op(process) {
-            Some(Op::Recv(_)) if live.mailbox.is_empty() => self.detail("25 empty mailbox"),
-            Some(Op::Recv(_)) => self.detail("25 mail without a fit"),
+            Some(Op::Recv(_)) => self.count_no_fit(node, process),
             Some(Op::Send(r, _)) => {
                 self.detail("26 send");
                 self.detail_if(own(r), "26 pair with itself");

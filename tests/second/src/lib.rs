@@ -1,6 +1,6 @@
-//! A second interpreter of document 01 (the open garage node) and of request M-100 of document 02,
-//! with a seeded generator of cases. It shares no code and no tables with the proved crates, so that
-//! the two can be compared.
+//! A second interpreter of document 01 (the open garage node) and of requests M-100 to M-102 of
+//! document 02, with a seeded generator of cases. It shares no code and no tables with the proved
+//! crates, so that the two can be compared.
 
 pub mod arguments;
 pub mod cases;
@@ -37,7 +37,7 @@ fn print_program(plan: &[u8], steps: &[u8], mut coverage: Option<&mut Coverage>)
         Ok(node) => node,
         Err(refused) => {
             if let Some(coverage) = coverage {
-                coverage.count_load_refusal(&refused);
+                coverage.count_load_refusal(plan, &refused);
             }
             return format!("load={},{}\n", refused.number, refused.line).into_bytes();
         }

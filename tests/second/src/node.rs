@@ -1,5 +1,5 @@
-//! The node of document 01 and of request M-100 of document 02: values, messages, signals, ops,
-//! processes and the signals in flight.
+//! The node of document 01 and of requests M-100 to M-102 of document 02: values, messages, signals,
+//! ops, processes and the signals in flight.
 
 use std::collections::{BTreeMap, BTreeSet};
 use std::fmt;
@@ -82,7 +82,8 @@ pub struct Clause {
     pub target: usize,
 }
 
-/// The ops in the order of the document's table, then "ops `monitor,r` and `demonitor,r`".
+/// The ops in the order of the document's table, then "ops `monitor,r` and `demonitor,r`" and "op
+/// `after,t`".
 #[derive(Clone, Copy, Debug, PartialEq, Eq)]
 pub enum Op {
     Set(usize, Value),
@@ -107,6 +108,7 @@ pub enum Op {
     Stop(usize),
     Monitor(usize),
     Demonitor(usize),
+    After(usize),
 }
 
 /// "live: behaviour number, place (0 to N), registers r0 to r3, trap flag, link set, mailbox of at

@@ -21,6 +21,24 @@ pub const BAD_CLAUSES: u8 = 14;
 
 /// Loads a plan: a node ready to play, or "First bad line from 1 is told" with its number.
 pub fn load(text: &[u8]) -> Result<Node, Refused> {
+    let plan = read(text)?;
+    // "14, looked for after the last line"
+    if let Some(misplaced) = first_misplaced(&plan) {
+        return Err(Refused {
+            number: BAD_CLAUSES,
+            line: misplaced.line,
+        });
+    }
+    Ok(first_node(plan))
+}
+
+/// What 14 is told of, in a text that is refused by 14.
+pub fn misplaced(text: &[u8]) -> Option<Misplaced> {
+    first_misplaced(&read(text).ok()?)
+}
+
+/// What the text says, 14 not looked for.
+fn read(text: &[u8]) -> Result<Plan, Refused> {
     if text.len() > BYTE_LIMIT {
         return Err(Refused {
             number: TEXT_TOO_LONG,
@@ -29,15 +47,7 @@ pub fn load(text: &[u8]) -> Result<Node, Refused> {
     }
     let (lines, rest) = split_lines(text);
     let mut reader = Reader { lines, told: 0 };
-    let plan = read_plan(&mut reader, rest)?;
-    // "14, looked for after the last line"
-    if let Some(line) = first_misplaced(&plan) {
-        return Err(Refused {
-            number: BAD_CLAUSES,
-            line,
-        });
-    }
-    Ok(first_node(plan))
+    read_plan(&mut reader, rest)
 }
 
 /// What the lines of a plan say.
@@ -182,8 +192,8 @@ pub enum Operand {
 }
 
 /// The operands of each op word, in the order of the document's table, then "ops `monitor,r` and
-/// `demonitor,r`".
-pub const OPERANDS: [(&str, &[Operand]); 18] = [
+/// `demonitor,r`" and "op `after,t`".
+pub const OPERANDS: [(&str, &[Operand]); 19] = [
     ("set", &[Operand::Register, Operand::Value]),
     ("copy", &[Operand::Register, Operand::Register]),
     ("self", &[Operand::Register]),
@@ -216,6 +226,7 @@ pub const OPERANDS: [(&str, &[Operand]); 18] = [
     ("stop", &[Operand::Register]),
     ("monitor", &[Operand::Register]),
     ("demonitor", &[Operand::Register]),
+    ("after", &[Operand::Place]),
 ];
 
 /// The operands of a word, or None when there is no such op.
@@ -372,32 +383,66 @@ fn make_op(word: &[u8], written: &[Written]) -> Op {
         (b"stop", [r]) => Op::Stop(r.index()),
         (b"monitor", [r]) => Op::Monitor(r.index()),
         (b"demonitor", [r]) => Op::Demonitor(r.index()),
+        (b"after", [t]) => Op::After(t.index()),
         _ => panic!("a word and operands that the checks let pass"),
     }
 }
 
-/// "14, looked for after the last line, recv without its clauses, stray clause, target place on a
-/// clause"; "For 14 it is the lowest line of such a recv, clause or op."
-fn first_misplaced(plan: &Plan) -> Option<usize> {
+/// What makes an op one that 14 is told of.
+#[derive(Clone, Copy, Debug, PartialEq, Eq)]
+pub enum Fault {
+    LacksClauses,
+    /// A recv that lacks clauses because an `after` stands before its last one, or in the place of
+    /// its last one.
+    AfterBetweenClauses,
+    AfterForLastClause,
+    StrayClause,
+    StrayAfter,
+    /// An `after` behind an `after`.
+    SecondAfter,
+    TargetOnClause,
+    TargetOnAfter,
+}
+
+/// The op of the lowest line that 14 can be told of, and all that is wrong with it.
+#[derive(Clone, Debug, PartialEq, Eq)]
+pub struct Misplaced {
+    pub line: usize,
+    pub op: Op,
+    pub faults: Vec<Fault>,
+}
+
+/// "For 14 it is the lowest line of such a recv, clause or op."
+fn first_misplaced(plan: &Plan) -> Option<Misplaced> {
     for code in &plan.codes {
         let owned = owned_places(&code.ops);
-        let bad = (0..code.ops.len()).find(|&place| is_misplaced(&code.ops, &owned, place));
-        if let Some(place) = bad {
-            return Some(code.first_line + place);
+        for (place, &op) in code.ops.iter().enumerate() {
+            let faults = faults_at(&code.ops, &owned, place);
+            if !faults.is_empty() {
+                let line = code.first_line + place;
+                return Some(Misplaced { line, op, faults });
+            }
         }
     }
     None
 }
 
-fn is_misplaced(ops: &[Op], owned: &[bool], place: usize) -> bool {
+/// "14, looked for after the last line, recv without its clauses, stray clause, target place on a
+/// clause"; "A plan with `after` elsewhere is 14, a target place on an `after` is 14 as well"
+fn faults_at(ops: &[Op], owned: &[bool], place: usize) -> Vec<Fault> {
     let op = ops[place];
-    let lacks_clauses = match op {
-        Op::Recv(count) => !has_clauses(ops, place, count),
-        _ => false,
+    let standing = match op {
+        Op::Recv(count) => recv_fault(ops, place, count),
+        Op::Clause(_) if !owned[place] => Some(Fault::StrayClause),
+        Op::After(_) => after_fault(ops, place),
+        _ => None,
     };
-    let is_stray = is_clause(ops, place) && !owned[place];
-    let aims_at_clause = target_of(op).is_some_and(|target| is_clause(ops, target));
-    lacks_clauses || is_stray || aims_at_clause
+    let aiming = target_of(op).and_then(|target| match ops.get(target) {
+        Some(Op::Clause(_)) => Some(Fault::TargetOnClause),
+        Some(Op::After(_)) => Some(Fault::TargetOnAfter),
+        _ => None,
+    });
+    standing.into_iter().chain(aiming).collect()
 }
 
 /// Whether an op is a clause; place N is not.
@@ -408,6 +453,31 @@ fn is_clause(ops: &[Op], place: usize) -> bool {
 /// "The next n ops are its clauses"
 fn has_clauses(ops: &[Op], place: usize, count: usize) -> bool {
     (place + 1..=place + count).all(|next| is_clause(ops, next))
+}
+
+fn recv_fault(ops: &[Op], place: usize, count: usize) -> Option<Fault> {
+    let last = place + count;
+    let other = (place + 1..=last).find(|&next| !is_clause(ops, next))?;
+    Some(match ops.get(other) {
+        Some(Op::After(_)) if other == last => Fault::AfterForLastClause,
+        Some(Op::After(_)) if is_clause(ops, other + 1) => Fault::AfterBetweenClauses,
+        _ => Fault::LacksClauses,
+    })
+}
+
+/// "op `after,t`, allowed only directly behind the last clause of a recv"
+fn after_fault(ops: &[Op], place: usize) -> Option<Fault> {
+    let is_behind = |start: usize| match ops[start] {
+        Op::Recv(count) => start + count + 1 == place && has_clauses(ops, start, count),
+        _ => false,
+    };
+    if (0..place).any(is_behind) {
+        return None;
+    }
+    match ops[..place].last() {
+        Some(Op::After(_)) => Some(Fault::SecondAfter),
+        _ => Some(Fault::StrayAfter),
+    }
 }
 
 /// For each place, whether it is one of the n next places of some recv,n.
@@ -427,7 +497,9 @@ fn owned_places(ops: &[Op]) -> Vec<bool> {
 pub fn target_of(op: Op) -> Option<usize> {
     match op {
         Op::Clause(clause) => Some(clause.target),
-        Op::Jump(target) | Op::Same(_, _, target) | Op::Less(_, _, target) => Some(target),
+        Op::Jump(target) | Op::Same(_, _, target) | Op::Less(_, _, target) | Op::After(target) => {
+            Some(target)
+        }
         _ => None,
     }
 }
@@ -464,6 +536,7 @@ pub fn op_word(op: Op) -> &'static str {
         Op::Stop(_) => "stop",
         Op::Monitor(_) => "monitor",
         Op::Demonitor(_) => "demonitor",
+        Op::After(_) => "after",
     }
 }
 
@@ -489,7 +562,7 @@ pub fn op_text(op: Op) -> String {
         } => format!("{word},{r},{behaviour},{process}"),
         Op::Recv(count) => format!("{word},{count}"),
         Op::Clause(clause) => format!("{word},{}", clause_text(clause)),
-        Op::Jump(target) => format!("{word},{target}"),
+        Op::Jump(target) | Op::After(target) => format!("{word},{target}"),
         Op::Same(r, value, target) => format!("{word},{r},{value},{target}"),
         Op::Less(r, s, target) => format!("{word},{r},{s},{target}"),
     }

@@ -1,5 +1,6 @@
 //! The check of demand 3: a reordering of accepted steps that keeps each owner's order gives an
-//! equal node; "Two lists compared for their end now compare these sets [of watching] too".
+//! equal node; "Two lists compared for their end now compare these sets [of watching] too"; "Demand 3
+//! holds for lists with timeouts too, which count as their owner's steps".
 
 use crate::cases::{plans, schedules};
 use crate::listing;
@@ -12,6 +13,8 @@ use std::collections::VecDeque;
 #[derive(Clone, Copy, Debug, Default)]
 pub struct Report {
     pub steps: usize,
+    /// How many of the steps are timeouts.
+    pub timeouts: usize,
     /// Whether the second list differs from the first.
     pub differs: bool,
     /// Steps that were refused and skipped while the second list was played.
@@ -31,9 +34,14 @@ pub fn check(seed: u64, k: u64) -> Result<Report, String> {
     compare(&first, &second)?;
     Ok(Report {
         steps: steps.len(),
+        timeouts: steps.iter().filter(|step| is_timeout(step)).count(),
         differs: order != steps,
         skipped,
     })
+}
+
+fn is_timeout(step: &Step) -> bool {
+    matches!(step, Step::Timeout(_))
 }
 
 /// Equal nodes, and equal listings, which show all of a node but its behaviours.

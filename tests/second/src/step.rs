@@ -1,5 +1,5 @@
-//! The step rules of document 01, sections "Steps" and "The three hands", and of request M-100 of
-//! document 02.
+//! The step rules of document 01, sections "Steps" and "The three hands", and of requests M-100 to
+//! M-102 of document 02.
 //! Every function looks for a refusal first and changes the node only afterwards, because "A
 //! refused step leaves the node unchanged".
 
@@ -8,17 +8,18 @@ use crate::node::{
     KILL, KILLED, MAILBOX_LIMIT, NOPROC, NORMAL, PROCESSES,
 };
 
-/// "A step is `run i` or `arrive i from j`; its owner is i."
+/// "A step is `run i` or `arrive i from j`; its owner is i."; "the step `timeout=i`, owned by i"
 #[derive(Clone, Copy, Debug, PartialEq, Eq)]
 pub enum Step {
     Run(u8),
     Arrive { to: u8, from: u8 },
+    Timeout(u8),
 }
 
 impl Step {
     pub fn owner(self) -> u8 {
         match self {
-            Step::Run(process) => process,
+            Step::Run(process) | Step::Timeout(process) => process,
             Step::Arrive { to, .. } => to,
         }
     }
@@ -33,6 +34,7 @@ pub const MAILBOX_FULL: u8 = 24;
 pub const NO_FIT: u8 = 25;
 pub const PAIR_FULL: u8 = 26;
 pub const NOT_UNBORN: u8 = 27;
+pub const NO_TIMEOUT: u8 = 28;
 
 /// What an accepted step did. The rules do not need it; coverage counts it.
 #[derive(Clone, Copy, Debug, PartialEq, Eq)]
@@ -46,11 +48,13 @@ pub enum Effect {
         registers: [Value; 4],
         watched: bool,
     },
-    /// A live process ran recv and this clause took this message, so far at this index.
+    /// A live process ran recv and this clause took this message, so far at this index; `after`
+    /// tells whether the recv has one.
     Received {
         clause: Clause,
         message: Message,
         index: usize,
+        after: bool,
     },
     /// A closing process sent its exit reason to a link.
     ToldLink,
@@ -75,6 +79,8 @@ pub enum Effect {
         from_link: bool,
         trap: bool,
     },
+    /// A live process gave up waiting at the recv of this place.
+    TimedOut { place: usize },
 }
 
 /// Plays one step. On a refusal the node is unchanged and the answer is the refusal's number.
@@ -88,6 +94,7 @@ pub fn take(node: &mut Node, step: Step) -> Result<Effect, u8> {
     match step {
         Step::Run(process) => run(node, process),
         Step::Arrive { to, from } => arrive(node, to, from),
+        Step::Timeout(process) => timeout(node, process),
     }
 }
 
@@ -95,7 +102,7 @@ pub fn take(node: &mut Node, step: Step) -> Result<Effect, u8> {
 fn check_numbers(step: Step) -> Result<(), u8> {
     let known = |process: u8| (1..=PROCESSES).contains(&process);
     let good = match step {
-        Step::Run(process) => known(process),
+        Step::Run(process) | Step::Timeout(process) => known(process),
         Step::Arrive { to, from } => known(to) && known(from),
     };
     if good {
@@ -140,8 +147,9 @@ fn run_live(node: &mut Node, process: u8) -> Result<Effect, u8> {
             process: spawned,
         } => spawn(node, process, r, behaviour, spawned)?,
         Op::Recv(count) => return recv(node, process, count),
-        // "no place is on a clause": loading and the steps keep every place off the clauses.
-        Op::Clause(_) => panic!("process {process} has its place on a clause"),
+        // "no place is on a clause"; "a node with a place on one [an `after`] is not sound": loading
+        // and the steps keep every place off both.
+        Op::Clause(_) | Op::After(_) => panic!("process {process} has its place on {op:?}"),
         Op::Jump(target) => node.live_mut(process).place = target,
         Op::Same(r, value, target) => same(node, process, r, value, target),
         Op::Less(r, s, target) => less(node, process, r, s, target),
@@ -340,6 +348,7 @@ fn stop(node: &mut Node, process: u8, r: usize) {
 fn recv(node: &mut Node, process: u8, count: usize) -> Result<Effect, u8> {
     // "25 recv without a fit"
     let (index, clause) = first_fit(node, process, count).ok_or(NO_FIT)?;
+    let after = after_of(node, process, count).is_some();
     let live = node.live_mut(process);
     let message = live.mailbox.remove(index);
     match message {
@@ -354,6 +363,7 @@ fn recv(node: &mut Node, process: u8, count: usize) -> Result<Effect, u8> {
         clause,
         message,
         index,
+        after,
     })
 }
 
@@ -386,6 +396,52 @@ fn fits(pattern: Pattern, message: &Message) -> bool {
         (Pattern::Pid, Message::Value(Value::Pid(_))) => true,
         (Pattern::Exact(wanted), Message::Value(value)) => wanted == *value,
         _ => false,
+    }
+}
+
+/// "It moves a live process at such a recv to t if no message fits."; "Errors: 28, given for a
+/// timeout directly after 21, when the owner is not live at a recv with `after`, or a message fits."
+fn timeout(node: &mut Node, process: u8) -> Result<Effect, u8> {
+    let awaited = awaited(node, process).ok_or(NO_TIMEOUT)?;
+    let target = awaited.after.ok_or(NO_TIMEOUT)?;
+    if awaited.fit.is_some() {
+        return Err(NO_TIMEOUT);
+    }
+    let live = node.live_mut(process);
+    let place = live.place;
+    live.place = target;
+    Ok(Effect::TimedOut { place })
+}
+
+/// What a live process at a recv waits for.
+pub struct Awaited {
+    /// The t of the recv's `after`, if it has one.
+    pub after: Option<usize>,
+    /// The index of the first message that fits a clause, if one does.
+    pub fit: Option<usize>,
+}
+
+/// What a process waits for that is live at a recv; None for every other one.
+pub fn awaited(node: &Node, process: u8) -> Option<Awaited> {
+    if !matches!(node.stage(process), Stage::Live(_)) {
+        return None;
+    }
+    let Some(Op::Recv(count)) = node.current_op(process) else {
+        return None;
+    };
+    Some(Awaited {
+        after: after_of(node, process, count),
+        fit: first_fit(node, process, count).map(|(index, _)| index),
+    })
+}
+
+/// The t of the op "directly behind the last clause of a recv" at which a process stands, if it is
+/// an `after`. A code that ends with its clauses has none.
+fn after_of(node: &Node, process: u8, count: usize) -> Option<usize> {
+    let live = node.live(process);
+    match node.code(live.behaviour).get(live.place + count + 1) {
+        Some(&Op::After(target)) => Some(target),
+        _ => None,
     }
 }
 

@@ -46,10 +46,13 @@ fn read_lines(text: &[u8]) -> Result<Vec<Step>, Refused> {
     Ok(steps)
 }
 
-/// "Steps: `run=i`, `arrive=i,j`, numbers 0 to 255 (any other: 15)"
+/// "Steps: `run=i`, `arrive=i,j`, numbers 0 to 255 (any other: 15)"; "the step `timeout=i`"
 fn read_step(line: &[u8]) -> Option<Step> {
     if let Some(value) = value_of(line, "run") {
         return Some(Step::Run(process_number(value)?));
+    }
+    if let Some(value) = value_of(line, "timeout") {
+        return Some(Step::Timeout(process_number(value)?));
     }
     let value = value_of(line, "arrive")?;
     match parts(value)[..] {
@@ -70,6 +73,7 @@ pub fn step_text(step: Step) -> String {
     match step {
         Step::Run(process) => format!("run={process}"),
         Step::Arrive { to, from } => format!("arrive={to},{from}"),
+        Step::Timeout(process) => format!("timeout={process}"),
     }
 }
 

@@ -1,4 +1,4 @@
-//! The document's own examples, worked out from its text by hand.
+//! The documents' own examples, worked out from their text by hand.
 
 mod support;
 
@@ -388,4 +388,99 @@ fn signals_at_closing_and_gone_are_dropped() {
     assert_eq!(answer(&out), "accepted=7 refused=0");
     assert_eq!(process(&out, 2), "stage=gone");
     assert_eq!(flights(&out), "");
+}
+
+/// Waits for an integer and gives up to place N.
+const QUIET: [&str; 3] = ["recv,1", "clause,int,1,1,0", "after,3"];
+
+#[test]
+fn a_timeout_moves_a_quiet_process_to_t() {
+    let out = run(&plan(&[&QUIET], &[(1, 1)]), "timeout=1");
+    assert_eq!(answer(&out), "accepted=1 refused=0");
+    assert_eq!(process(&out, 1), fresh(1, 3));
+    let out = run(&plan(&[&QUIET], &[(1, 1)]), "timeout=1 run=1");
+    assert_eq!(process(&out, 1), "stage=closing reason=a0 links= watchers=");
+}
+
+#[test]
+fn a_timeout_changes_the_place_alone() {
+    let signs = [
+        "trap,1",
+        "set,0,p2",
+        "link,0",
+        "monitor,0",
+        "recv,1",
+        "clause,int,1,1,0",
+        "after,0",
+    ];
+    let row = [
+        "set,0,p1",
+        "set,1,a9",
+        "link,0",
+        "send,0,1",
+        "exit,0,1",
+        "monitor,0",
+    ];
+    let text = plan(&[&signs, &row], &[(1, 1), (2, 2)]);
+    let words = "run=1 run=1 run=1 run=1 run=2 run=2 run=2 run=2 run=2 run=2 \
+                 arrive=1,2 arrive=1,2 arrive=1,2 arrive=1,2";
+    let before = run(&text, words);
+    let out = run(&text, &format!("{words} timeout=1"));
+    assert_eq!(answer(&out), "accepted=15 refused=0");
+    let live =
+        "r0=p2 r1=i0 r2=i0 r3=i0 trap=1 links=2 watches=2 watchers=2 mail=2 message=a9 note=p2,a9";
+    let at = |place: usize| format!("stage=live behaviour=1 place={place} {live}");
+    assert_eq!(process(&before, 1), at(4));
+    assert_eq!(process(&out, 1), at(0));
+    assert_eq!(process(&out, 2), process(&before, 2));
+    assert_eq!(flights(&out), flights(&before));
+    assert_eq!(flights(&out), "flight=1,2,2 signal=link signal=monitor");
+}
+
+#[test]
+fn a_timeout_at_a_full_mailbox() {
+    let text = plan(
+        &[&["set,0,p2", "send,0,0", "jump,1"], &QUIET],
+        &[(1, 1), (2, 2)],
+    );
+    let out = run(&text, &format!("{}timeout=2", flood_steps(16)));
+    assert_eq!(answer(&out), "accepted=50 refused=0");
+    assert!(process(&out, 2).contains("place=3"));
+    assert!(process(&out, 2).contains("mail=16"));
+}
+
+#[test]
+fn a_timeout_may_lead_back_to_its_recv() {
+    let text = plan(&[&["recv,1", "clause,int,1,1,0", "after,0"]], &[(1, 1)]);
+    let out = run(&text, &"timeout=1 ".repeat(5));
+    assert_eq!(answer(&out), "accepted=5 refused=0");
+    assert_eq!(process(&out, 1), fresh(1, 0));
+}
+
+#[test]
+fn each_recv_has_its_own_after() {
+    let mut code = vec!["recv,8"];
+    code.extend(["clause,int,1,1,0"; 8]);
+    code.extend([
+        "after,10",
+        "recv,2",
+        "clause,int,1,1,0",
+        "clause,any,1,1,0",
+        "after,15",
+        "stop,0",
+    ]);
+    let text = plan(&[&code], &[(1, 1)]);
+    assert_eq!(process(&run(&text, "timeout=1"), 1), fresh(1, 10));
+    assert_eq!(process(&run(&text, "timeout=1 timeout=1"), 1), fresh(1, 15));
+}
+
+#[test]
+fn a_run_never_takes_the_after() {
+    let text = plan(&[&["set,0,p2", "send,0,1"], &QUIET], &[(1, 1), (2, 2)]);
+    let out = run(&text, "run=2");
+    assert_eq!(answer(&out), "accepted=0 refused=25");
+    assert_eq!(process(&out, 2), fresh(2, 0));
+    let out = run(&text, "run=1 run=1 arrive=2,1 run=2 timeout=2");
+    assert_eq!(answer(&out), "accepted=5 refused=0");
+    assert_eq!(process(&out, 2), fresh(2, 3));
 }

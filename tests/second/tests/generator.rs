@@ -19,8 +19,9 @@ fn operand_counts_are_those_of_the_document() {
         .map(|(_, operands)| operands.len())
         .collect();
     let document_01 = [2, 2, 1, 2, 2, 2, 1, 1, 1, 3, 1, 4, 1, 3, 3, 1];
-    let monitor_and_demonitor = [1, 1];
-    assert_eq!(counts, [&document_01[..], &monitor_and_demonitor].concat());
+    let (monitor_and_demonitor, after) = ([1, 1], [1]);
+    let document = [&document_01[..], &monitor_and_demonitor, &after].concat();
+    assert_eq!(counts, document);
 }
 
 #[test]
@@ -90,11 +91,14 @@ fn a_small_batch_reaches_every_counter() {
 
 #[test]
 fn reordered_steps_give_equal_nodes() {
+    let mut lists_with_timeouts = 0;
     for k in 0..500 {
-        if let Err(error) = reorder::check(3, k) {
-            panic!("check {k}: {error}");
+        match reorder::check(3, k) {
+            Ok(report) => lists_with_timeouts += u32::from(report.timeouts > 0 && report.differs),
+            Err(error) => panic!("check {k}: {error}"),
         }
     }
+    assert!(lists_with_timeouts > 100, "only {lists_with_timeouts}");
 }
 
 #[test]

@@ -51,53 +51,64 @@ fn refusal_11_missing_and_surplus_lines() {
     assert_eq!(load(&text[..text.len() - 1]), "load=11,6\n");
 }
 
+/// Ops that are 11.
+const BAD_FORMS: &[&str] = &[
+    "",
+    "nop",
+    "set,0",
+    "set,0,i1,2",
+    "set,0,1",
+    "set,0,x1",
+    "set,0,i",
+    "set,0,i-0",
+    "set,0,i+1",
+    "set,0,i01",
+    "set,0,a-0",
+    "set,00,i1",
+    "set,-0,i1",
+    "set, 0,i1",
+    "set,0,i1 ",
+    "self",
+    "self,",
+    "self,0,0",
+    "trap,on",
+    "spawn,0,1,p2",
+    "recv",
+    "clause,Any,0,0,0",
+    "clause,anyx,0,0,0",
+    "clause,5,0,0,0",
+    "clause,any,0,0",
+    "clause,Down,0,0,0",
+    "clause,down,0,0",
+    "monitor",
+    "monitor,0,0",
+    "monitor,p1",
+    "demonitor",
+    "demonitor,0,0",
+    "after",
+    "after,",
+    "after,0,0",
+    "after,p1",
+    "after,i0",
+    "after,00",
+    "after,-0",
+    "After,0",
+    "afters,0",
+    "jump,p1",
+    "same,0,1,0",
+    "less,0,0",
+    "stop,0,",
+    "stop,\u{0}",
+    "stop,0\u{0}",
+    "stop,0\r",
+    "stop,é",
+    "Stop,0",
+    "jump,--1",
+];
+
 #[test]
 fn refusal_11_words_counts_and_forms() {
-    let bad = [
-        "",
-        "nop",
-        "set,0",
-        "set,0,i1,2",
-        "set,0,1",
-        "set,0,x1",
-        "set,0,i",
-        "set,0,i-0",
-        "set,0,i+1",
-        "set,0,i01",
-        "set,0,a-0",
-        "set,00,i1",
-        "set,-0,i1",
-        "set, 0,i1",
-        "set,0,i1 ",
-        "self",
-        "self,",
-        "self,0,0",
-        "trap,on",
-        "spawn,0,1,p2",
-        "recv",
-        "clause,Any,0,0,0",
-        "clause,anyx,0,0,0",
-        "clause,5,0,0,0",
-        "clause,any,0,0",
-        "clause,Down,0,0,0",
-        "clause,down,0,0",
-        "monitor",
-        "monitor,0,0",
-        "monitor,p1",
-        "demonitor",
-        "demonitor,0,0",
-        "jump,p1",
-        "same,0,1,0",
-        "less,0,0",
-        "stop,0,",
-        "stop,\u{0}",
-        "stop,0\u{0}",
-        "stop,0\r",
-        "stop,é",
-        "Stop,0",
-        "jump,--1",
-    ];
-    for op in bad {
+    for op in BAD_FORMS {
         assert_eq!(load(one(&[op])), "load=11,4\n", "{op}");
     }
 }
@@ -110,51 +121,56 @@ fn refusal_11_comes_before_12_on_a_line() {
     assert_eq!(load(text), "load=11,6\n");
 }
 
+/// Ops of a code of one that are 12.
+const OUT_OF_RANGE: &[&str] = &[
+    "set,4,i0",
+    "set,-1,i0",
+    "set,0,i2147483648",
+    "set,0,i-2147483649",
+    "set,0,a256",
+    "set,0,a-1",
+    "set,0,p0",
+    "set,0,p17",
+    "set,0,p-1",
+    "copy,0,4",
+    "self,4",
+    "add,4,0",
+    "send,0,4",
+    "exit,4,0",
+    "link,4",
+    "unlink,4",
+    "monitor,4",
+    "demonitor,-1",
+    "trap,2",
+    "trap,-1",
+    "spawn,0,0,2",
+    "spawn,0,2,2",
+    "spawn,0,1,0",
+    "spawn,0,1,17",
+    "spawn,4,1,2",
+    "recv,0",
+    "recv,9",
+    "clause,p17,0,0,0",
+    "clause,any,4,0,0",
+    "clause,any,0,4,0",
+    "clause,any,0,0,2",
+    "clause,down,4,0,0",
+    "after,2",
+    "after,-1",
+    "after,18446744073709551616",
+    "jump,2",
+    "jump,-1",
+    "jump,18446744073709551616",
+    "same,0,a300,0",
+    "same,0,i0,2",
+    "less,0,0,2",
+    "less,0,4,0",
+    "stop,4",
+];
+
 #[test]
 fn refusal_12_operands() {
-    let bad = [
-        "set,4,i0",
-        "set,-1,i0",
-        "set,0,i2147483648",
-        "set,0,i-2147483649",
-        "set,0,a256",
-        "set,0,a-1",
-        "set,0,p0",
-        "set,0,p17",
-        "set,0,p-1",
-        "copy,0,4",
-        "self,4",
-        "add,4,0",
-        "send,0,4",
-        "exit,4,0",
-        "link,4",
-        "unlink,4",
-        "monitor,4",
-        "demonitor,-1",
-        "trap,2",
-        "trap,-1",
-        "spawn,0,0,2",
-        "spawn,0,2,2",
-        "spawn,0,1,0",
-        "spawn,0,1,17",
-        "spawn,4,1,2",
-        "recv,0",
-        "recv,9",
-        "clause,p17,0,0,0",
-        "clause,any,4,0,0",
-        "clause,any,0,4,0",
-        "clause,any,0,0,2",
-        "clause,down,4,0,0",
-        "jump,2",
-        "jump,-1",
-        "jump,18446744073709551616",
-        "same,0,a300,0",
-        "same,0,i0,2",
-        "less,0,0,2",
-        "less,0,4,0",
-        "stop,4",
-    ];
-    for op in bad {
+    for op in OUT_OF_RANGE {
         assert_eq!(load(one(&[op])), "load=12,4\n", "{op}");
     }
 }
@@ -198,6 +214,12 @@ fn limits_of_ranges_are_taken() {
     let long = vec!["jump,32"; 32];
     let text = plan(&[long.as_slice(); 8], &starts);
     assert!(load(text).starts_with("accepted=0\n"));
+    // `code=` counts the `after`.
+    let mut with_after = vec!["jump,0"; 29];
+    with_after.extend(["recv,1", "clause,any,0,0,32", "after,32"]);
+    assert!(load(one(&with_after)).starts_with("accepted=0\n"));
+    with_after.insert(0, "jump,0");
+    assert_eq!(load(one(&with_after)), "load=12,3\n");
 }
 
 #[test]
@@ -235,6 +257,83 @@ fn refusal_14_targets() {
     assert_eq!(load(one(&early)), "load=14,4\n");
 }
 
+/// A recv with one clause, then these ops.
+fn behind_a_recv(ops: &[&str]) -> String {
+    let mut code = vec!["recv,1", "clause,any,0,0,0"];
+    code.extend(ops);
+    load(one(&code))
+}
+
+#[test]
+fn an_after_stands_behind_the_last_clause() {
+    for target in ["after,0", "after,3"] {
+        assert!(behind_a_recv(&[target]).starts_with("accepted=0\n"));
+    }
+    let two = ["after,3", "recv,1", "clause,any,0,0,6", "after,3"];
+    assert!(behind_a_recv(&two).starts_with("accepted=0\n"));
+    let mut eight = vec!["recv,8"];
+    eight.extend(["clause,any,0,0,0"; 8]);
+    eight.push("after,10");
+    assert!(load(one(&eight)).starts_with("accepted=0\n"));
+}
+
+#[test]
+fn refusal_14_after_elsewhere() {
+    assert_eq!(load(one(&["after,0"])), "load=14,4\n");
+    assert_eq!(load(one(&["after,1"])), "load=14,4\n");
+    assert_eq!(load(one(&["trap,0", "after,0"])), "load=14,5\n");
+    // Not directly behind the last clause, and behind another `after`.
+    assert_eq!(behind_a_recv(&["trap,0", "after,0"]), "load=14,7\n");
+    assert_eq!(behind_a_recv(&["after,0", "after,0"]), "load=14,7\n");
+    // Behind a clause that no recv counts: the clause is the lower line.
+    let stray = ["clause,any,0,0,0", "after,0"];
+    assert_eq!(behind_a_recv(&stray), "load=14,6\n");
+    assert_eq!(load(one(&stray)), "load=14,4\n");
+}
+
+#[test]
+fn refusal_14_recv_with_an_after_among_its_clauses() {
+    let clause = "clause,any,0,0,0";
+    let codes: [&[&str]; 4] = [
+        &["recv,2", clause, "after,0", clause],
+        &["recv,2", "after,0", clause, clause],
+        &["recv,2", clause, "after,0"],
+        &["recv,1", "after,0", clause],
+    ];
+    for code in codes {
+        assert_eq!(load(one(code)), "load=14,4\n", "{code:?}");
+    }
+    // The code ends before the last clause.
+    assert_eq!(load(one(&["recv,1", "after,0"])), "load=14,4\n");
+}
+
+#[test]
+fn refusal_14_targets_on_an_after() {
+    for op in ["jump,2", "same,0,i0,2", "less,0,0,2"] {
+        assert_eq!(behind_a_recv(&["after,0", op]), "load=14,7\n", "{op}");
+    }
+    assert_eq!(behind_a_recv(&["after,2"]), "load=14,6\n");
+    let other = ["after,5", "recv,1", "clause,any,0,0,0", "after,0"];
+    assert_eq!(behind_a_recv(&other), "load=14,6\n");
+    // The t of an `after` is a target, also one on a clause.
+    assert_eq!(behind_a_recv(&["after,1"]), "load=14,6\n");
+    let clause = ["recv,1", "clause,any,0,0,2", "after,0"];
+    assert_eq!(load(one(&clause)), "load=14,5\n");
+    // The lowest line is told, be the `after` a stray one or not.
+    let early = ["jump,3", "recv,1", "clause,any,0,0,0", "after,0"];
+    assert_eq!(load(one(&early)), "load=14,4\n");
+    assert_eq!(load(one(&["jump,1", "after,0"])), "load=14,4\n");
+}
+
+#[test]
+fn refusal_14_after_in_a_later_behaviour() {
+    // The first behaviour ends with the clause of its recv; the `after` belongs to the second one.
+    let text = plan(&[&["recv,1", "clause,any,0,0,0"], &["after,0"]], &[(1, 1)]);
+    assert_eq!(load(text), "load=14,7\n");
+    let text = plan(&[&["trap,0"], &["trap,0", "after,0"]], &[(2, 1), (1, 1)]);
+    assert_eq!(load(text), "load=13,10\n");
+}
+
 #[test]
 fn refusal_14_lowest_line_over_all_behaviours() {
     let text = plan(
@@ -244,31 +343,49 @@ fn refusal_14_lowest_line_over_all_behaviours() {
     assert_eq!(load(text), "load=14,7\n");
 }
 
+/// Lines that are no step.
+const BAD_STEPS: &[&str] = &[
+    "",
+    "run",
+    "run=",
+    "run=256",
+    "run=-1",
+    "run=-0",
+    "run=+1",
+    "run=01",
+    "run=1,1",
+    "run=1 ",
+    "run=1\r",
+    "run=\u{0}",
+    "arrive=1",
+    "arrive=1,",
+    "arrive=1,2,3",
+    "arrive=1,256",
+    "Run=1",
+    "run=99999999999999999999999",
+    "arrive=1,-1",
+    "timeout",
+    "timeout=",
+    "timeout=256",
+    "timeout=-1",
+    "timeout=-0",
+    "timeout=+1",
+    "timeout=01",
+    "timeout=1,1",
+    "timeout=1,",
+    "timeout=p1",
+    "timeout=1 ",
+    "timeout=1\r",
+    "Timeout=1",
+    "timeouts=1",
+    "timeout=99999999999999999999999",
+    "after=1",
+    "stop=1",
+];
+
 #[test]
 fn refusal_15_malformed_steps() {
-    let bad = [
-        "",
-        "run",
-        "run=",
-        "run=256",
-        "run=-1",
-        "run=-0",
-        "run=+1",
-        "run=01",
-        "run=1,1",
-        "run=1 ",
-        "run=1\r",
-        "run=\u{0}",
-        "arrive=1",
-        "arrive=1,",
-        "arrive=1,2,3",
-        "arrive=1,256",
-        "Run=1",
-        "run=99999999999999999999999",
-        "arrive=1,-1",
-        "stop=1",
-    ];
-    for line in bad {
+    for line in BAD_STEPS {
         let text = format!("run=1\n{line}\nrun=1\n");
         assert_eq!(steps_answer(text), "steps=15,2\n", "{line}");
     }
@@ -276,6 +393,7 @@ fn refusal_15_malformed_steps() {
     assert_eq!(steps_answer("run=1\nrun=1"), "steps=15,2\n");
     assert_eq!(steps_answer("\n"), "steps=15,1\n");
     assert_eq!(steps_answer(b"run=\xff\n"), "steps=15,1\n");
+    assert_eq!(steps_answer("timeout=1"), "steps=15,1\n");
 }
 
 #[test]
@@ -309,6 +427,9 @@ fn refusal_20_comes_first() {
         "arrive=1,0",
         "arrive=1,17",
         "arrive=2,0",
+        "timeout=0",
+        "timeout=17",
+        "timeout=255",
     ] {
         let out = run(&one(&["jump,0"]), step);
         assert_eq!(answer(&out), "accepted=0 refused=20", "{step}");
@@ -317,7 +438,13 @@ fn refusal_20_comes_first() {
 
 #[test]
 fn refusal_21_unborn_owner() {
-    for step in ["run=2", "arrive=2,1", "arrive=16,16"] {
+    for step in [
+        "run=2",
+        "arrive=2,1",
+        "arrive=16,16",
+        "timeout=2",
+        "timeout=16",
+    ] {
         let out = run(&one(&["jump,0"]), step);
         assert_eq!(answer(&out), "accepted=0 refused=21", "{step}");
     }
@@ -415,4 +542,142 @@ fn refusal_27_not_unborn() {
         assert!(answer(&out).ends_with("refused=27"), "{before}");
         assert!(process(&out, 1).contains("place=0 r0=i0 r1=i0 r2=i0 r3=i0"));
     }
+}
+
+/// Process 1 waits for an integer or a note, with an `after`; process 2 sends it what is in the row.
+fn waiting(row: &[&str]) -> String {
+    let mut sends = vec!["set,0,p1".to_string()];
+    for value in row {
+        sends.extend([format!("set,1,{value}"), "send,0,1".to_string()]);
+    }
+    let sends: Vec<&str> = sends.iter().map(String::as_str).collect();
+    let waits = ["recv,2", "clause,int,1,1,4", "clause,note,1,1,4", "after,4"];
+    plan(&[&waits, &sends], &[(1, 1), (2, 2)])
+}
+
+/// The steps by which the values of such a row are sent and join the mailbox of process 1.
+fn delivered(row: &[&str]) -> String {
+    format!("run=2 {}", "run=2 run=2 arrive=1,2 ".repeat(row.len()))
+}
+
+#[test]
+fn refusal_28_message_that_fits() {
+    let rows: [&[&str]; 4] = [
+        &["i5"],
+        &["i5", "a5"],
+        &["a5", "p5", "i5"],
+        &["a5", "i5", "i6"],
+    ];
+    for row in rows {
+        let (text, words) = (waiting(row), delivered(row));
+        let before = run(&text, &words);
+        let out = run(&text, &format!("{words}timeout=1"));
+        assert!(answer(&out).ends_with("refused=28"), "{row:?}");
+        assert_eq!(process(&out, 1), process(&before, 1), "{row:?}");
+    }
+    // What is in flight has not arrived, and a message that does not fit is no hindrance.
+    let out = run(&waiting(&["i5"]), "run=2 run=2 run=2 timeout=1");
+    assert_eq!(answer(&out), "accepted=4 refused=0");
+    let row: &[&str] = &["a5", "p5"];
+    let out = run(&waiting(row), &format!("{}timeout=1", delivered(row)));
+    assert_eq!(answer(&out), "accepted=8 refused=0");
+}
+
+#[test]
+fn refusal_28_note_or_down_that_fits() {
+    // Process 1 traps, watches process 2 and waits; process 2 sends it an exit or stops.
+    let text = |clause: &'static str| {
+        let waits = [
+            "trap,1",
+            "set,0,p2",
+            "monitor,0",
+            "recv,1",
+            clause,
+            "after,6",
+        ];
+        let ends = ["set,0,p1", "exit,0,0", "stop,0"];
+        plan(&[&waits, &ends], &[(1, 1), (2, 2)])
+    };
+    let note = "run=1 run=1 run=1 run=2 run=2 arrive=1,2 timeout=1";
+    let down =
+        "run=1 run=1 run=1 arrive=2,1 run=2 run=2 run=2 run=2 arrive=1,2 arrive=1,2 timeout=1";
+    let ends_with = |clause, words: &str| answer(&run(&text(clause), words));
+    for clause in ["clause,note,1,1,0", "clause,any,1,1,0"] {
+        assert_eq!(ends_with(clause, note), "accepted=6 refused=28", "{clause}");
+    }
+    for clause in ["clause,down,1,1,0", "clause,note,1,1,0", "clause,any,1,1,0"] {
+        assert_eq!(
+            ends_with(clause, down),
+            "accepted=10 refused=28",
+            "{clause}"
+        );
+    }
+    assert_eq!(ends_with("clause,down,1,1,0", note), "accepted=7 refused=0");
+    assert_eq!(ends_with("clause,int,1,1,0", down), "accepted=11 refused=0");
+}
+
+#[test]
+fn refusal_28_not_at_a_recv() {
+    for op in ["jump,0", "trap,1", "stop,0", "spawn,0,1,2"] {
+        let out = run(&one(&[op]), "timeout=1");
+        assert_eq!(answer(&out), "accepted=0 refused=28", "{op}");
+    }
+    // At the place before the recv, and at place N.
+    let code = ["trap,0", "recv,1", "clause,any,0,0,0", "after,4"];
+    let text = one(&code);
+    assert_eq!(answer(&run(&text, "timeout=1")), "accepted=0 refused=28");
+    assert_eq!(
+        answer(&run(&text, "run=1 timeout=1 timeout=1")),
+        "accepted=2 refused=28"
+    );
+}
+
+#[test]
+fn refusal_28_recv_without_after() {
+    let clause = "clause,any,0,0,0";
+    let codes: [&[&str]; 4] = [
+        &["recv,1", clause],
+        &["recv,1", clause, "jump,0"],
+        // The `after` of the next recv is not its own.
+        &["recv,1", clause, "recv,1", clause, "after,0"],
+        &["recv,2", clause, clause, "stop,0"],
+    ];
+    for code in codes {
+        let out = run(&one(code), "timeout=1");
+        assert_eq!(answer(&out), "accepted=0 refused=28", "{code:?}");
+        assert!(process(&out, 1).contains("place=0"), "{code:?}");
+    }
+}
+
+#[test]
+fn refusal_28_behind_the_code_there_is_no_after() {
+    let waits: [&str; 3] = ["recv,1", "clause,any,0,0,0", "after,0"];
+    // Place 32 lies before a behaviour that begins with a recv.
+    let mut full = vec!["jump,32"];
+    full.extend(["stop,0"; 31]);
+    let text = plan(&[&full, &waits], &[(1, 1)]);
+    assert_eq!(
+        answer(&run(&text, "run=1 timeout=1")),
+        "accepted=1 refused=28"
+    );
+    // The clauses of the last recv are the last ops.
+    full[0] = "jump,30";
+    full[30] = "recv,1";
+    full[31] = "clause,any,0,0,0";
+    let text = plan(&[&full, &waits], &[(1, 1)]);
+    assert_eq!(
+        answer(&run(&text, "run=1 timeout=1")),
+        "accepted=1 refused=28"
+    );
+}
+
+#[test]
+fn refusal_28_closing_and_gone() {
+    let text = one(&["stop,0", "recv,1", "clause,any,0,0,0", "after,0"]);
+    let out = run(&text, "run=1 timeout=1");
+    assert_eq!(answer(&out), "accepted=1 refused=28");
+    assert_eq!(process(&out, 1), "stage=closing reason=i0 links= watchers=");
+    let out = run(&text, "run=1 run=1 timeout=1");
+    assert_eq!(answer(&out), "accepted=2 refused=28");
+    assert_eq!(process(&out, 1), "stage=gone");
 }

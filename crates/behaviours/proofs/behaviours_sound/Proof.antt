@@ -2,14 +2,12 @@
 use Prim.Native.Nat.{_+_, _*_, _-_, _≤_}
 use Rattle.node.specs.Lists.{allOf}
 use Rattle.node.specs.Nodes.{noOp}
-use Rattle.node.specs.Ops.{clauseOp}
 use Rattle.rules.specs.Behaviours.{codeSound}
 use Rattle.behaviours.proofs.Codes.{lands-at, lands-free}
 use Rattle.behaviours.proofs.Pass.{Pass, pass-start, pass-end, size-stop, op-stop, op-barred, op-more, due-stop, next-code}
 use Rattle.node.proofs.Tests.{failed, passed, within-is}
 use Rattle.behaviours.specs.Codes.{codesIn}
 use borrow.Author.Needs.{needs}
-use borrow.Author.Tests.{eq-eqb}
 use lib.ListN.{getD}
 use mathlib.Core.Bool.{not}
 use mathlib.Core.Logic.{⊎-map}
@@ -80,35 +78,38 @@ returns-3 c =
 landing-requires : tie.Need-landing-requires Inv-loop μ-loop
 landing-requires c κs = search needs
 
-mul-if5 : tie.Need-mul-if5 Inv-loop μ-loop
-mul-if5 c = search needs
+mul-is-part : tie.Need-mul-is-part Inv-loop μ-loop
+mul-is-part c = search needs
 
-cast-if5 : tie.Need-cast-if5 Inv-loop μ-loop
-cast-if5 c = search needs
+cast-is-part : tie.Need-cast-is-part Inv-loop μ-loop
+cast-is-part c = search needs
 
-add-if5 : tie.Need-add-if5 Inv-loop μ-loop
-add-if5 c = search needs
+add-is-part : tie.Need-add-is-part Inv-loop μ-loop
+add-is-part c = search needs
 
-mul-if5-2 : tie.Need-mul-if5-2 Inv-loop μ-loop
-mul-if5-2 c = search needs
+mul-is-part-2 : tie.Need-mul-is-part-2 Inv-loop μ-loop
+mul-is-part-2 c = search needs
 
-element-copy-out-if5 : tie.Need-element-copy-out-if5 Inv-loop μ-loop
-element-copy-out-if5 c =
+element-copy-out-is-part : tie.Need-element-copy-out-is-part Inv-loop μ-loop
+element-copy-out-is-part c =
     let n = getD (c .before .before .before .before .before .before .before .before .before .before .before .args .t2) (c .before .before .before .before .before .before .before .before .loop .b) 0 in
     let most : n ≤ 32 = within-is n 1 32 (passed (c .before .before .before .before .before .before .within2 .ensures) (c .before .before .before .before .before .if2 .left)) .1 in
     search needs
 
+is-part-requires : tie.Need-is-part-requires Inv-loop μ-loop
+is-part-requires c κs = search needs
+
 returns-4 : tie.Need-returns-4 Inv-loop μ-loop
 returns-4 c =
-    let a = c .before .before .before .before .before .before .before .before .before .before .before .before .args in
-    let l = c .before .before .before .before .before .before .before .before .before .loop in
-    let w = passed (c .before .before .before .before .before .before .before .before .before .before .before .within .ensures)
-    (c .before .before .before .before .before .before .before .before .before .before .if1 .left) in
+    let a = c .before .before .before .before .before .before .before .before .before .before .before .before .before .args in
+    let l = c .before .before .before .before .before .before .before .before .before .before .loop in
+    let w = passed (c .before .before .before .before .before .before .before .before .before .before .before .before .within .ensures)
+    (c .before .before .before .before .before .before .before .before .before .before .before .if1 .left) in
     let n = getD (a .t2) (l .b) 0 in
-    let s = passed (c .before .before .before .before .before .before .before .within2 .ensures) (c .before .before .before .before .before .before .if2 .left) in
+    let s = passed (c .before .before .before .before .before .before .before .before .within2 .ensures) (c .before .before .before .before .before .before .before .if2 .left) in
     let size = within-is n 1 32 s in
-    let barred = sym (lands-at n (a .t3) (l .b) (getD (a .t3) (32 * l .b + l .t) noOp) (c .before .before .landing .ensures) (c .before .if4 .taken) refl)
-    ∙ ap not (eq-eqb _ clauseOp (c .if5 .taken)) in
+    let barred = sym (lands-at n (a .t3) (l .b) (getD (a .t3) (32 * l .b + l .t) noOp) (c .before .before .before .landing .ensures) (c .before .before .if4 .taken) refl)
+    ∙ ap not (sym (c .before .is-part .ensures) ∙ c .if5 .taken) in
     rw w (op-barred (a .count) (a .t2) (a .t3) (l .b) (omega arith) (l .inv .4) (omega arith) barred)
 
 due-next-requires : tie.Need-due-next-requires Inv-loop μ-loop
@@ -127,8 +128,8 @@ loop-again c =
     let n = getD (a .t2) (l .b) 0 in
     let s = passed (c .before .before .before .before .before .before .before .before .within2 .ensures) (c .before .before .before .before .before .before .before .if2 .left) in
     let size = within-is n 1 32 s in
-    let free = lands-free n (a .t3) (l .b) (getD (a .t3) (32 * l .b + l .t) noOp) (c .before .before .before .landing .ensures) (⊎-map (λ v. (v .0 .taken, v .1 .left)) (λ v. v .left)
-    (c .before .before .if4 .came)) in (
+    let free = lands-free n (a .t3) (l .b) (getD (a .t3) (32 * l .b + l .t) noOp) (c .before .before .before .landing .ensures)
+    (⊎-map (λ v. (v .0 .taken, sym (v .1 .ensures) ∙ v .2 .left)) (λ v. v .left) (c .before .before .if4 .came)) in (
       search needs,
       search needs,
       search needs,
@@ -146,8 +147,8 @@ returns-5 c =
     let n = getD (a .t2) (l .b) 0 in
     let s = passed (c .before .before .before .before .before .before .before .before .before .within2 .ensures) (c .before .before .before .before .before .before .before .before .if2 .left) in
     let size = within-is n 1 32 s in
-    let free = lands-free n (a .t3) (l .b) (getD (a .t3) (32 * l .b + l .t) noOp) (c .before .before .before .before .landing .ensures) (⊎-map (λ v. (v .0 .taken, v .1 .left)) (λ v. v .left)
-    (c .before .before .before .if4 .came)) in
+    let free = lands-free n (a .t3) (l .b) (getD (a .t3) (32 * l .b + l .t) noOp) (c .before .before .before .before .landing .ensures)
+    (⊎-map (λ v. (v .0 .taken, sym (v .1 .ensures) ∙ v .2 .left)) (λ v. v .left) (c .before .before .before .if4 .came)) in
     let next = op-more (a .count) (a .t2) (a .t3) (l .b) (omega arith) (l .inv .4) (omega arith) (passed (c .before .before .before .before .before .before .op-sound .ensures)
     (c .before .before .before .before .before .if3 .left)) free (c .before .before .due-next .ensures) in
     rw w (due-stop (a .count) (a .t2) (a .t3) (l .b) (omega arith) next (omega arith) (c .if7 .taken))
@@ -165,8 +166,8 @@ loop-again-2 c =
     let n = getD (a .t2) (l .b) 0 in
     let s = passed (c .before .before .before .before .before .before .before .before .before .within2 .ensures) (c .before .before .before .before .before .before .before .before .if2 .left) in
     let size = within-is n 1 32 s in
-    let free = lands-free n (a .t3) (l .b) (getD (a .t3) (32 * l .b + l .t) noOp) (c .before .before .before .before .landing .ensures) (⊎-map (λ v. (v .0 .taken, v .1 .left)) (λ v. v .left)
-    (c .before .before .before .if4 .came)) in
+    let free = lands-free n (a .t3) (l .b) (getD (a .t3) (32 * l .b + l .t) noOp) (c .before .before .before .before .landing .ensures)
+    (⊎-map (λ v. (v .0 .taken, sym (v .1 .ensures) ∙ v .2 .left)) (λ v. v .left) (c .before .before .before .if4 .came)) in
     let next = op-more (a .count) (a .t2) (a .t3) (l .b) (omega arith) (l .inv .4) (omega arith) (passed (c .before .before .before .before .before .before .op-sound .ensures)
     (c .before .before .before .before .before .if3 .left)) free (c .before .before .due-next .ensures) in
     (search needs, search needs, search needs, search needs, next-code (a .count) (a .t2) (a .t3) (l .b) (omega arith) next (omega arith) s (c .if7 .left))
@@ -198,11 +199,12 @@ behaviours-sound-spec =
     op-sound-requires
     returns-3
     landing-requires
-    mul-if5
-    cast-if5
-    add-if5
-    mul-if5-2
-    element-copy-out-if5
+    mul-is-part
+    cast-is-part
+    add-is-part
+    mul-is-part-2
+    element-copy-out-is-part
+    is-part-requires
     returns-4
     due-next-requires
     add-t

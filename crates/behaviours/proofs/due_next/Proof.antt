@@ -4,16 +4,21 @@ use Rattle.rules.specs.Behaviours.{instruction}
 use Rattle.behaviours.proofs.Codes.{clause-count}
 use borrow.Author.Needs.{needs}
 use borrow.Author.Tests.{eq-eqb, ne-eqb}
-use mathlib.Core.Path.{sym}
 use native.Mathlib.Omega.{arith}
 use Rattle.behaviours.proofs.due_next.Statement.{statement}
 use Rattle.behaviours.proofs.due_next.Tie as tie
 
+cast-result : tie.Need-cast-result
+cast-result c = search needs
+
+add-result : tie.Need-add-result
+add-result c = search needs
+
 returns : tie.Need-returns
 unfolding instruction
 returns c =
-    let o = c .before .args .op in
-    rw (eq-eqb (o .number) recvOp (c .if1 .taken)) (sym (clause-count o (c .if1 .taken)))
+    let o = c .before .before .args .op in
+    rw (eq-eqb (o .number) recvOp (c .before .if1 .taken), clause-count o (c .before .if1 .taken))
 
 sub-result : tie.Need-sub-result
 sub-result c = search needs
@@ -37,4 +42,4 @@ returns-4 c =
     rw (ne-eqb (o .number) recvOp (c .before .if1 .left), ne-eqb (o .number) clauseOp (c .if2 .left))
 
 pub due-next-spec : {M : Type 1} → statement M
-due-next-spec = tie.close (tie.spec returns sub-result returns-2 returns-3 returns-4)
+due-next-spec = tie.close (tie.spec cast-result add-result returns sub-result returns-2 returns-3 returns-4)

@@ -1,7 +1,9 @@
 -- `decide` looks at 20, 21 and 23 and then asks the rule of the step. Assumes nothing.
+use mathlib.Core.Logic.{⊎-elim}
 use mathlib.Core.Path.{sym, _∙_}
 use borrow.Author.Needs.{needs}
-use borrow.Author.Tests.{eq-eqb, ne-eqb}
+use borrow.Author.Tests.{eq-eqb, ne-eqb, not-true, not-false}
+use Rattle.decisions.specs.Answers.{expired}
 use Rattle.decisions.specs.Decided.{decidedOf}
 use Rattle.decisions.proofs.decide.Statement.{statement}
 use Rattle.decisions.proofs.decide.Tie as tie
@@ -49,17 +51,38 @@ returns-4 c = c .arrive .ensures ∙ rw (
   ne-eqb _ 0 (c .before .before .if4 .left),
 )
 
+awaits-requires : tie.Need-awaits-requires
+awaits-requires c κs = search needs
+
+refuses-requires-4 : tie.Need-refuses-requires-4
+refuses-requires-4 c κs = search needs
+
+returns-5 : tie.Need-returns-5
+unfolding decidedOf expired
+returns-5 c = c .refuses4 .ensures ∙ rw (
+  c .before .before .before .before .before .before .before .before .if1 .left,
+  sym (c .before .before .before .before .before .before .before .is-unborn .ensures)
+      ∙ c .before .before .before .before .before .before .if2 .left,
+  c .before .before .before .before .if3 .left,
+  c .before .before .before .if5 .taken,
+  sym (c .before .before .awaits .ensures)
+      ∙ not-true _ (c .before .if6 .taken),
+)
+
 run-requires : tie.Need-run-requires
 run-requires c κs = search needs
 
-returns-5 : tie.Need-returns-5
-unfolding decidedOf
-returns-5 c = c .run .ensures ∙ rw (
-  c .before .before .before .before .before .if1 .left,
-  sym (c .before .before .before .before .is-unborn .ensures)
-      ∙ c .before .before .before .if2 .left,
-  c .before .if3 .left,
-)
+returns-6 : tie.Need-returns-6
+unfolding decidedOf expired
+returns-6 c =
+    let started = c .before .before .before .before .before .before .if1 .left in
+    let born = sym (c .before .before .before .before .before .is-unborn .ensures) ∙ c .before .before .before .before .if2 .left in
+    let quiet = c .before .before .if3 .left in
+    c .run .ensures
+    ∙ ⊎-elim
+    (λ w. rw (started, born, quiet, w .0 .taken, sym (w .1 .ensures) ∙ not-false _ (w .2 .left)))
+    (λ w. rw (started, born, quiet, w .left))
+    (c .before .if5 .came)
 
 pub decide-spec : {M : Type 1} → statement M
 decide-spec =
@@ -74,5 +97,8 @@ decide-spec =
     returns-3
     arrive-requires
     returns-4
+    awaits-requires
+    refuses-requires-4
+    returns-5
     run-requires
-    returns-5)
+    returns-6)

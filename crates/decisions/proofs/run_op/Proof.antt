@@ -37,11 +37,11 @@ run-trap-requires c κs = search needs
 run-spawn-requires : tie.Need-run-spawn-requires
 run-spawn-requires c κs = search needs
 
-run-recv-requires : tie.Need-run-recv-requires
-run-recv-requires c κs = search needs
+searches-requires : tie.Need-searches-requires
+searches-requires c κs = search needs
 
-run-clause-requires : tie.Need-run-clause-requires
-run-clause-requires c κs = search needs
+run-part-requires : tie.Need-run-part-requires
+run-part-requires c κs = search needs
 
 run-jump-requires : tie.Need-run-jump-requires
 run-jump-requires c κs = search needs
@@ -60,6 +60,9 @@ run-monitor-requires c κs = search needs
 
 run-demonitor-requires : tie.Need-run-demonitor-requires
 run-demonitor-requires c κs = search needs
+
+run-part-requires-2 : tie.Need-run-part-requires-2
+run-part-requires-2 c κs = search needs
 
 run-stop-requires-2 : tie.Need-run-stop-requires-2
 run-stop-requires-2 c κs = search needs
@@ -137,17 +140,17 @@ returns-10 c =
 returns-11 : tie.Need-returns-11
 unfolding receives messages
 returns-11 c =
-    let its-run-recv = c .run-recv in
+    let its-searches = c .searches in
     let its-args = c .before .before .args in
     let its-match = c .before .match in
-    its-run-recv .ensures ∙ ran-at (its-args .i) (its-args .p) (its-args .op) 10 (its-match .keys11)
+    its-searches .ensures ∙ ran-at (its-args .i) (its-args .p) (its-args .op) 10 (its-match .keys11)
 
 returns-12 : tie.Need-returns-12
 returns-12 c =
-    let its-run-clause = c .run-clause in
+    let its-run-part = c .run-part in
     let its-args = c .before .before .args in
     let its-match = c .before .match in
-    its-run-clause .ensures ∙ ran-at (its-args .i) (its-args .p) (its-args .op) 11 (its-match .keys12)
+    its-run-part .ensures ∙ ran-at (its-args .i) (its-args .p) (its-args .op) 11 (its-match .keys12)
 
 returns-13 : tie.Need-returns-13
 returns-13 c =
@@ -193,10 +196,17 @@ returns-18 c =
 
 returns-19 : tie.Need-returns-19
 returns-19 c =
+    let its-run-part2 = c .run-part2 in
+    let its-args = c .before .before .args in
+    let its-match = c .before .match in
+    its-run-part2 .ensures ∙ ran-at (its-args .i) (its-args .p) (its-args .op) 18 (its-match .keys19)
+
+returns-20 : tie.Need-returns-20
+returns-20 c =
     let its-run-stop2 = c .run-stop2 in
     let its-args = c .before .before .args in
     let its-match = c .before .match in
-    its-run-stop2 .ensures ∙ ran-stop (its-args .i) (its-args .p) (its-args .op) (past 18 (its-args .op .number) (its-match .rest))
+    its-run-stop2 .ensures ∙ ran-stop (its-args .i) (its-args .p) (its-args .op) (past 19 (its-args .op .number) (its-match .rest))
 
 pub run-op-spec : {M : Type 1} → statement M
 run-op-spec =
@@ -212,14 +222,15 @@ run-op-spec =
     run-unlink-requires
     run-trap-requires
     run-spawn-requires
-    run-recv-requires
-    run-clause-requires
+    searches-requires
+    run-part-requires
     run-jump-requires
     run-same-requires
     run-less-requires
     run-stop-requires
     run-monitor-requires
     run-demonitor-requires
+    run-part-requires-2
     run-stop-requires-2
     returns
     returns-2
@@ -239,4 +250,5 @@ run-op-spec =
     returns-16
     returns-17
     returns-18
-    returns-19)
+    returns-19
+    returns-20)

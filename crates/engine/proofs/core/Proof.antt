@@ -8,51 +8,57 @@ use native.Mathlib.Omega.{arith}
 use borrow.Author.Needs.{needs, fits-under}
 use mir.Syntax.{w64}
 use mir.Val.{Fits}
+use borrow.Author.Tests.{lt-ltb, le-ltb}
+use lib.Dec.{ltb}
 use lib.ListN.{length, getD, drop, set}
 use lib.Seq.{set-set, set-getD}
 use Rattle.actions.specs.Numbers.{actionOf}
+use Rattle.actions.specs.Places.{behaviourAt}
 use Rattle.actions.specs.declared.Decoded.{Decoded}
 use Rattle.actions.proofs.Decoding.{Means, meant}
 use Rattle.decisions.specs.declared.Decision.{Decision}
-use Rattle.decisions.specs.Decided.{decidedOf, pairRefusal, birthRefusal}
+use Rattle.decisions.specs.Decided.{decidedOf, pairRefusal, birthRefusal, timeoutRefusal}
 use Rattle.node.specs.declared.Node.{Node}
+use Rattle.node.specs.declared.Op.{Op}
 use Rattle.node.specs.declared.Process.{Process}
 use Rattle.node.specs.declared.Cell.{Cell}
 use Rattle.node.specs.declared.Slot.{Slot}
 use Rattle.node.specs.Blocks.{Shelf, up}
 use Rattle.node.specs.Mailboxes.{noMessage, slotOf}
 use Rattle.node.specs.Nodes.{noOp, noProcess, mailShelf, flightShelf}
+use Rattle.node.specs.Processes.{moved}
 use Rattle.node.specs.Rows.{noSignal, cellOf}
 use Rattle.rules.proofs.Commits.{parts-of}
 use Rattle.rules.specs.Nodes.{Sound}
 use Rattle.rules.specs.Receive.{firstClause, search as searchFor}
-use Rattle.rules.specs.Answers.{refused, done, noFit}
+use Rattle.rules.specs.Answers.{refused, done, noFit, noTimeout}
 use Rattle.rules.specs.Steps.{Action, Outcome, rule, played}
 use Rattle.engine.specs.Answers.{firstOf}
 use Rattle.turns.proofs.Changes.{cellAt, searchedOf, waitingNext, sentNext, cellNext, slotNext}
 use Rattle.engine.proofs.Laws.{Going, going, stop, more, over, look-more, look-stop, look-over, withSlots, withCells, mailOf}
 use Rattle.turns.proofs.Stores.{up-end, Moved, moved-start, moved-more, moved-end}
-use Rattle.turns.proofs.Turns.{placeAt, clausesOf, P, O, C, X, W, Says, Y, Z, pairTold, birthTold, top, join, told-as-it-is, message-at, found, missed, passed, unfound, unsought}
+use Rattle.turns.proofs.Turns.{placeAt, clausesOf, behindOp, P, O, L, C, X, W, Says, Y, Z, pairTold, birthTold, top, join}
+use Rattle.turns.proofs.Turns.{told-as-it-is, message-at, found, missed, passed, unfound, unsought, late-found, late-unfound}
 use Rattle.turns.proofs.Turns.{Verdict, Committed, made, storedMail, storedFlight, stored-cells, sentAt, stored-run, stored-birth, stored-arrival}
 use Rattle.engine.proofs.core.Statement.{statement}
 use Rattle.engine.proofs.core.Tie as tie
 
 abbrev Inv-loop2 : tie.InvT-loop2
-Inv-loop2 numbers looks node i t s k r p x waiting w e owner to number refusal₀ next₀ first m top end message c₀ refusal next c =
+Inv-loop2 numbers looks node i t s k r p x op waiting w e owner to number refusal₀ next₀ first m top end message c₀ refusal next c =
     (placeAt node p + 1 ≤ c) × (refusal ≡ refusal₀) × (next ≡ next₀)
     × (searchFor (clausesOf node p) 0 (mailOf node k) ≡ firstClause (drop (c - (placeAt node p + 1)) (clausesOf node p)) (m - 16 * k) message
     (searchFor (clausesOf node p) (m - 16 * k + 1) (drop (m - 16 * k + 1) (mailOf node k))))
 
 abbrev μ-loop2 : tie.MeasureT-loop2
-μ-loop2 numbers looks node i t s k r p x waiting w e owner to number refusal₀ next₀ first m top end message c₀ refusal next c = end - c
+μ-loop2 numbers looks node i t s k r p x op waiting w e owner to number refusal₀ next₀ first m top end message c₀ refusal next c = end - c
 
 abbrev Inv-messages : tie.InvT-messages
-Inv-messages numbers looks node i t s k r p x waiting w e owner to number refusal₀ next₀ first m₀ top end refusal next m =
+Inv-messages numbers looks node i t s k r p x op waiting w e owner to number refusal₀ next₀ first m₀ top end refusal next m =
     (16 * k ≤ m) × (m ≤ top) × (refusal ≡ noFit)
     × (searchFor (clausesOf node p) 0 (mailOf node k) ≡ searchFor (clausesOf node p) (m - 16 * k) (drop (m - 16 * k) (mailOf node k)))
 
 abbrev μ-messages : tie.MeasureT-messages
-μ-messages numbers looks node i t s k r p x waiting w e owner to number refusal₀ next₀ first m₀ top end refusal next m = top - m
+μ-messages numbers looks node i t s k r p x op waiting w e owner to number refusal₀ next₀ first m₀ top end refusal next m = top - m
 
 abbrev Inv-loop3 : tie.InvT-loop3
 Inv-loop3 numbers looks node₀ i t s k r x waiting w e owner to number refusal first m₀ top node m =
@@ -119,8 +125,8 @@ module _ (c : Turn) where
   abbrev x : ℕ
   x = (c .before .before .before .before .before .before .before .before .before .before .before) .op-index .result
 
-  abbrev behindOp : ℕ
-  behindOp = placeAt N (P N N-sound T T-means) + 1
+  abbrev behindRecv : ℕ
+  behindRecv = placeAt N (P N N-sound T T-means) + 1
 
   abbrev waits : ℕ
   waits = W N N-sound T T-means
@@ -131,9 +137,17 @@ module _ (c : Turn) where
   x-is : x ≡ placeAt N (P N N-sound T T-means)
   x-is = (c .before .before .before .before .before .before .before .before .before .before .before) .op-index .ensures .0
 
+  len-is : (c .before .before .before .before .before .before .before) .behaviour-index .result ≡ behaviourAt (P N N-sound T T-means .behaviour .0)
+  len-is = (c .before .before .before .before .before .before .before) .behaviour-index .ensures .0
+
+  -- the op that is read behind the clauses of a recv, where they end at r
+  behind-is : (r y : ℕ) → r ≡ min (x + 1 + getD (N .ops) x noOp .small) 256 → y ≡ min r 255 → getD (N .ops) y noOp ≡ behindOp N (P N N-sound T T-means)
+  behind-is r y e f =
+      ap (λ (k : ℕ). getD (N .ops) k noOp) (f ∙ ap (λ (k : ℕ). min k 255) (e ∙ ap (λ (k : ℕ). min (k + 1 + getD (N .ops) k noOp .small) 256) x-is))
+
   E-says : Says N N-sound T T-means E
   E-says = (c .before .before .before .before) .decide .ensures ∙ (λ i. decidedOf T (P N N-sound T T-means) (C N N-sound T T-means) (X N N-sound T T-means)
-      (getD (N .lens) ((c .before .before .before .before .before .before .before) .behaviour-index .ensures .0 i) 0) (getD (N .ops) (x-is i) noOp) waits)
+      (getD (N .lens) (len-is i) 0) (getD (N .ops) (x-is i) noOp) waits)
 
   at-bound : T .at < 16
   at-bound = (c .before .before .before .before .before .before .before .before .before .before .before .before .before .before) .decode .ensures .1 .0
@@ -163,7 +177,7 @@ module _ (c : Turn) where
       go true h = omega (arith, h)
       go false h = omega (arith, h)
 
-  end-is : (r : ℕ) → r ≡ min (x + 1 + getD (N .ops) x noOp .small) 256 → r ≡ min (behindOp + clauses) 256
+  end-is : (r : ℕ) → r ≡ min (x + 1 + getD (N .ops) x noOp .small) 256 → r ≡ min (behindRecv + clauses) 256
   end-is r e = e ∙ ap (λ (k : ℕ). min (k + 1 + getD (N .ops) k noOp .small) 256) x-is
 
   looked : looks ≡ true → Going true n₀ numbers count N
@@ -192,6 +206,50 @@ module _ (c : Turn) where
   abbrev Commits : Process → ℕ → Type 0
   Commits p m = Committed N N-sound T T-means E E-says p m
 
+-- ---- a search is over
+
+abbrev Left : Type 0
+Left = tie.Left-messages Inv-loop2 μ-loop2 Inv-messages μ-messages Inv-loop3 μ-loop3 Inv-loop4 μ-loop4 Inv-loop μ-loop
+
+module _ (c : Left) where
+  abbrev left-by : Turn
+  left-by = c .before .before .before .before .before
+
+  -- the slot where it ended
+  abbrev stopped : ℕ
+  stopped = c .before .messages .m
+
+  abbrev Missed : Type 0
+  Missed = (c .messages-test .refusal ≡ noFit) × (lastSlot left-by ≤ stopped)
+
+  -- a message fits: a run takes it, a timeout is refused
+  record Hit : Type 0 where
+    pub refusal : c .messages-test .refusal ≡ 0
+    pub early : T left-by .expires ≡ false → Commits left-by (c .messages-test .next) stopped
+    pub late : T left-by .expires ≡ true → rule (N left-by) (action left-by) ≡ refused noTimeout
+
+  left-is : Missed ⊎ Hit
+  left-is =
+      let t = left-by in
+      let v = c .before .messages .inv in
+      let up = c .before .before .before .up-to in
+      let end = c .before .before .clauses-end in
+      let last = last-is t (c .before .before .before .before .if1 .taken) (up .result) (up .ensures) in
+      ⊎-elim
+      (λ w. inl (w .1 ∙ v .2, subst (λ (x : ℕ). x ≤ stopped) last (w .0 .left)))
+      (λ w.
+      let below = subst (λ (x : ℕ). stopped < x) last (w .0 .taken) in
+      let high = subst (λ (x : ℕ). w .2 .c < x) (end-is t (end .result) (end .ensures)) (w .3 .taken) in
+      let fits = sym (w .5 .ensures) ∙ w .6 .taken in
+      inr (record {
+        refusal = w .8;
+        early = λ q.
+            subst (λ (p : Process). Commits t p stopped) (sym (w .9 ∙ w .7 .ensures))
+            (found (N t) (N-sound t) (T t) (T-means t) (E t) (E-says t) stopped (w .2 .c) (v .0) below (w .2 .inv .0) high q fits (w .2 .inv .3));
+        late = λ q. late-found (N t) (N-sound t) (T t) (T-means t) (E t) (E-says t) stopped (w .2 .c) (v .0) below (w .2 .inv .0) high q fits (w .2 .inv .3);
+      }))
+      (c .messages-test .came)
+
 -- ---- the search is over, where there is one
 
 abbrev Sought : Type 0
@@ -218,34 +276,61 @@ module _ (c : Sought) where
     pub within : m ≤ lastSlot sought-by
     pub answer : Answer
 
+  -- what is told of refusal r, next process p and slot j is told of those that the ways meet with
+  tells : (r : ℕ) (p : Process) (j : ℕ) → c .if1 .refusal ≡ r → next ≡ p → m ≡ j → Told sought-by r p j → Told sought-by (c .if1 .refusal) next m
+  tells r p j e f g h =
+      subst (λ (k : ℕ). Told sought-by k next m) (sym e) (subst (λ (q : Process). Told sought-by r q m) (sym f) (subst (λ (k : ℕ). Told sought-by r p k) (sym g) h))
+
   ends : Ends
+  unfolding timeoutRefusal
   ends =
       let t = sought-by in
       ⊎-elim
       (λ w.
       let v = w .3 .inv in
+      let l : Left = record {
+        before = record { before = record { before = record { before = record { before = t; if1 = w .0 }; up-to = w .1 }; clauses-end = w .2 }; messages = w .3 };
+        messages-test = w .4;
+      } in
       let last = last-is t (w .0 .taken) (w .1 .result) (w .1 .ensures) in
-      let none : rule (N t) (action t) ≡ refused noFit = unfound (N t) (N-sound t) (T t) (T-means t) (E t) (E-says t) (w .0 .taken) (w .3 .m) (subst (λ (x : ℕ). x ≤ w .3 .m) last (w .4 .left))
-      (v .3) in
-      let is : c .if1 .refusal ≡ noFit = w .5 ∙ v .2 in
+      let op = behind-is t (w .2 .result) (w .6 .result) (w .2 .ensures) (w .6 .ensures) in
+      let p = P (N t) (N-sound t) (T t) (T-means t) in
+      let tell : ℕ → ℕ = λ r. timeoutRefusal r (p .place) (clauses t) (L (N t) (N-sound t) (T t) (T-means t)) (behindOp (N t) p) in
+      let told : c .if1 .refusal ≡ tell (w .4 .refusal) = w .11 ∙ w .10 .ensures
+      ∙ (λ i. timeoutRefusal (w .4 .refusal) (p .place) (getD (N t .ops) (x-is t i) noOp .small) (getD (N t .lens) (len-is t i) 0) (op i)) in
+      let moves : next ≡ moved p (behindOp (N t) p .target) = w .12 ∙ w .8 .ensures ∙ ap (λ (o : Op). moved p (o .target)) op in
       record {
-        last = w .8 ∙ last;
-        within = subst (λ (x : ℕ). x ≤ lastSlot t) (sym (w .7)) (subst (λ (x : ℕ). w .3 .m ≤ x) last (v .1));
-        answer = inl (w .0 .taken, inl ((λ z. omega (arith, z, is)), none ∙ ap refused (sym is)));
+        last = w .14 ∙ last;
+        within = subst (λ (x : ℕ). x ≤ lastSlot t) (sym (w .13)) (subst (λ (x : ℕ). w .3 .m ≤ x) last (v .1));
+        answer = inl (
+          w .0 .taken,
+          ⊎-elim
+              (λ u. tells (tell noFit) (moved p (behindOp (N t) p .target)) (w .3 .m) (told ∙ ap tell (u .0)) moves (w .13)
+              (late-unfound (N t) (N-sound t) (T t) (T-means t) (E t) (E-says t) (w .0 .taken) (w .5 .taken) (w .3 .m) (u .1) (v .3)))
+              (λ u. let is : c .if1 .refusal ≡ noTimeout = told ∙ ap tell (u .refusal) in inl ((λ z. omega (arith, z, is)), u .late (w .5 .taken) ∙ ap refused (sym is)))
+              (left-is l),
+        );
       })
       (⊎-elim
       (λ w.
       let v = w .3 .inv in
+      let l : Left = record {
+        before = record { before = record { before = record { before = record { before = t; if1 = w .0 }; up-to = w .1 }; clauses-end = w .2 }; messages = w .3 };
+        messages-test = w .4;
+      } in
       let last = last-is t (w .0 .taken) (w .1 .result) (w .1 .ensures) in
-      let k = w .3 .m in
-      let hit : Commits t (w .11 .result) k =
-      subst (λ (p : Process). Commits t p k) (sym (w .11 .ensures))
-      (found (N t) (N-sound t) (T t) (T-means t) (E t) (E-says t) k (w .6 .c) (v .0) (subst (λ (x : ℕ). k < x) last (w .4 .taken)) (w .6 .inv .0)
-      (subst (λ (x : ℕ). w .6 .c < x) (end-is t (w .2 .result) (w .2 .ensures)) (w .7 .taken)) (sym (w .9 .ensures) ∙ w .10 .taken) (w .6 .inv .3)) in
       record {
-        last = w .15 ∙ last;
-        within = subst (λ (x : ℕ). x ≤ lastSlot t) (sym (w .14)) (subst (λ (x : ℕ). k ≤ x) last (v .1));
-        answer = inl (w .0 .taken, inr (w .12, subst (λ (j : ℕ). Commits t next j) (sym (w .14)) (subst (λ (p : Process). Commits t p k) (sym (w .13)) hit)));
+        last = w .9 ∙ last;
+        within = subst (λ (x : ℕ). x ≤ lastSlot t) (sym (w .8)) (subst (λ (x : ℕ). w .3 .m ≤ x) last (v .1));
+        answer = inl (
+          w .0 .taken,
+          ⊎-elim
+              (λ u.
+              let is : c .if1 .refusal ≡ noFit = w .6 ∙ u .0 in
+              inl ((λ z. omega (arith, z, is)), unfound (N t) (N-sound t) (T t) (T-means t) (E t) (E-says t) (w .0 .taken) (w .5 .left) (w .3 .m) (u .1) (v .3) ∙ ap refused (sym is)))
+              (λ u. tells 0 (w .4 .next) (w .3 .m) (w .6 ∙ u .refusal) (w .7) (w .8) (inr (refl, u .early (w .5 .left))))
+              (left-is l),
+        );
       })
       (λ w.
       let last = last-first t (w .0 .left) in
@@ -259,9 +344,9 @@ module _ (c : Sought) where
 -- ---- 26 and 27
 
 abbrev Paired : Type 0
-Paired = tie.Joined3 Inv-loop2 μ-loop2 Inv-messages μ-messages Inv-loop3 μ-loop3 Inv-loop4 μ-loop4 Inv-loop μ-loop
+Paired = tie.Joined4 Inv-loop2 μ-loop2 Inv-messages μ-messages Inv-loop3 μ-loop3 Inv-loop4 μ-loop4 Inv-loop μ-loop
 
-paired : (c : Paired) → c .if3 .refusal ≡ pairTold (N ((c .before .before))) (N-sound ((c .before .before))) (T ((c .before .before))) (T-means ((c .before .before))) (E ((c .before .before)))
+paired : (c : Paired) → c .if4 .refusal ≡ pairTold (N ((c .before .before))) (N-sound ((c .before .before))) (T ((c .before .before))) (T-means ((c .before .before))) (E ((c .before .before)))
     (E-says ((c .before .before))) ((c .before) .if1 .refusal)
 paired c =
     let r = (c .before) .if1 .refusal in
@@ -270,10 +355,10 @@ paired c =
     (E-says ((c .before .before)))) 0) in
     ⊎-elim (λ w. w .4 ∙ w .3 .ensures ∙ ap (λ (y : ℕ). pairRefusal r (getD (n .counts) y 0)) (w .1 .ensures .0) ∙ sym (ap (λ (b : Bool). cond b told r) (w .0 .taken)))
     (λ w. w .1 ∙ sym (ap (λ (b : Bool). cond b told r) (w .0 .left)))
-    (c .if3 .came)
+    (c .if4 .came)
 
 abbrev Over : Type 0
-Over = tie.Joined4 Inv-loop2 μ-loop2 Inv-messages μ-messages Inv-loop3 μ-loop3 Inv-loop4 μ-loop4 Inv-loop μ-loop
+Over = tie.Joined5 Inv-loop2 μ-loop2 Inv-messages μ-messages Inv-loop3 μ-loop3 Inv-loop4 μ-loop4 Inv-loop μ-loop
 
 module _ (c : Over) where
   abbrev t : Turn
@@ -283,15 +368,15 @@ module _ (c : Over) where
   s = (c .before .before)
 
   abbrev refusal : ℕ
-  refusal = c .if4 .refusal
+  refusal = c .if5 .refusal
 
   judged-is : refusal ≡ birthTold (N t) (N-sound t) (T t) (T-means t) (E t) (E-says t) (pairTold (N t) (N-sound t) (T t) (T-means t) (E t) (E-says t) (s .if1 .refusal))
   judged-is =
-      let r = (c .before) .if3 .refusal in
+      let r = (c .before) .if4 .refusal in
       let old = getD (N t .processes) (Z (N t) (N-sound t) (T t) (T-means t) (E t) (E-says t)) noProcess in
       ⊎-elim (λ w. w .4 ∙ w .3 .ensures ∙ ap (λ (k : ℕ). birthRefusal r (getD (N t .processes) k noProcess)) (w .1 .ensures .0) ∙ sym (ap (λ (b : Bool). cond b (birthRefusal r old) r) (w .0 .taken)))
       (λ w. w .1 ∙ sym (ap (λ (b : Bool). cond b (birthRefusal r old) r) (w .0 .left)))
-      (c .if4 .came)
+      (c .if5 .came)
       ∙ ap (birthTold (N t) (N-sound t) (T t) (T-means t) (E t) (E-says t)) (paired ((c .before)))
 
   verdict : Told t refusal (next s) (m s)
@@ -313,87 +398,87 @@ module _ (c : Over) where
 -- ---- the stores, one after another
 
 abbrev Shifted : Type 0
-Shifted = tie.Joined8 Inv-loop2 μ-loop2 Inv-messages μ-messages Inv-loop3 μ-loop3 Inv-loop4 μ-loop4 Inv-loop μ-loop
+Shifted = tie.Joined9 Inv-loop2 μ-loop2 Inv-messages μ-messages Inv-loop3 μ-loop3 Inv-loop4 μ-loop4 Inv-loop μ-loop
 
 module _ (c : Shifted) where
-  abbrev t8 : Turn
-  t8 = (c .before .before .before .before .before .before)
+  abbrev t9 : Turn
+  t9 = (c .before .before .before .before .before .before)
 
-  abbrev s8 : Sought
-  s8 = (c .before .before .before .before .before)
+  abbrev s9 : Sought
+  s9 = (c .before .before .before .before .before)
 
   -- the messages behind the one that is taken have moved up
-  abbrev slots8 : List Slot
-  slots8 = up (m s8) (lastSlot t8) (N t8 .slots)
+  abbrev slots9 : List Slot
+  slots9 = up (m s9) (lastSlot t9) (N t9 .slots)
 
-  abbrev mail8 : Shelf Slot
-  mail8 = record { cells = slots8; counts = set (N t8 .waiting) (T t8 .at) (cond (E t8 .receives) (waits t8 - 1) (waits t8)) }
+  abbrev mail9 : Shelf Slot
+  mail9 = record { cells = slots9; counts = set (N t9 .waiting) (T t9 .at) (cond (ltb (m s9) (lastSlot t9)) (waits t9 - 1) (waits t9)) }
 
-  abbrev processes8 : List Process
-  processes8 = set (N t8 .processes) (T t8 .at) (next s8)
+  abbrev processes9 : List Process
+  processes9 = set (N t9 .processes) (T t9 .at) (next s9)
 
-  shifted-is : c .if8 .node ≡ made (N t8) processes8 mail8 (flightShelf (N t8))
+  shifted-is : c .if9 .node ≡ made (N t9) processes9 mail9 (flightShelf (N t9))
   shifted-is =
-      let n = N t8 in
-      let w0 = waits t8 in
+      let n = N t9 in
+      let w0 = waits t9 in
       ⊎-elim
       (λ w.
       let v = w .2 .inv in
-      let slots : w .2 .node .slots ≡ slots8 = moved-end (v .2) (w .3 .left) ∙ ap (λ (x : ℕ). up (m s8) x (n .slots)) (ends s8 .last) in
-      let counts : set (n .waiting) (T t8 .at) (w .1 .result) ≡ mail8 .counts = ap (set (n .waiting) (T t8 .at)) (w .1 .ensures ∙ sym (ap (λ (b : Bool). cond b (w0 - 1) w0) (w .0 .taken))) in
-      w .4 ∙ v .1 ∙ (λ i. made n processes8 (record { cells = slots i; counts = counts i }) (flightShelf n)))
+      let leaves : ltb (m s9) (lastSlot t9) ≡ true = lt-ltb (m s9) (lastSlot t9) (subst (λ (x : ℕ). m s9 < x) (ends s9 .last) (w .0 .taken)) in
+      let slots : w .2 .node .slots ≡ slots9 = moved-end (v .2) (w .3 .left) ∙ ap (λ (x : ℕ). up (m s9) x (n .slots)) (ends s9 .last) in
+      let counts : set (n .waiting) (T t9 .at) (w .1 .result) ≡ mail9 .counts = ap (set (n .waiting) (T t9 .at)) (w .1 .ensures ∙ sym (ap (λ (b : Bool). cond b (w0 - 1) w0) leaves)) in
+      w .4 ∙ v .1 ∙ (λ i. made n processes9 (record { cells = slots i; counts = counts i }) (flightShelf n)))
       (λ w.
-      let counts : n .waiting ≡ mail8 .counts = sym (ap (λ (b : Bool). set (n .waiting) (T t8 .at) (cond b (w0 - 1) w0)) (w .0 .left) ∙ set-getD (n .waiting) (T t8 .at) 0) in
-      let slots : n .slots ≡ slots8 = sym (up-end (m s8) (lastSlot t8) (n .slots) (unmoved (w .0 .left))) in
-      w .1 ∙ (λ i. made n processes8 (record { cells = slots i; counts = counts i }) (flightShelf n)))
-      (c .if8 .came)
-    where
-      unmoved : E t8 .receives ≡ false → lastSlot t8 ≤ m s8 + 1
-      unmoved q = ⊎-elim (λ w. absurd (false≢true (sym q ∙ w .0))) (λ w. let e = w .3 in let l = last-first t8 q in omega (arith, e, l)) (ends s8 .answer)
+      let above : lastSlot t9 ≤ m s9 = subst (λ (x : ℕ). x ≤ m s9) (ends s9 .last) (w .0 .left) in
+      let stays : ltb (m s9) (lastSlot t9) ≡ false = le-ltb (m s9) (lastSlot t9) above in
+      let counts : n .waiting ≡ mail9 .counts = sym (ap (λ (b : Bool). set (n .waiting) (T t9 .at) (cond b (w0 - 1) w0)) stays ∙ set-getD (n .waiting) (T t9 .at) 0) in
+      let slots : n .slots ≡ slots9 = sym (up-end (m s9) (lastSlot t9) (n .slots) (omega (arith, above))) in
+      w .1 ∙ (λ i. made n processes9 (record { cells = slots i; counts = counts i }) (flightShelf n)))
+      (c .if9 .came)
 
 abbrev Joined : Type 0
-Joined = tie.Joined9 Inv-loop2 μ-loop2 Inv-messages μ-messages Inv-loop3 μ-loop3 Inv-loop4 μ-loop4 Inv-loop μ-loop
+Joined = tie.Joined10 Inv-loop2 μ-loop2 Inv-messages μ-messages Inv-loop3 μ-loop3 Inv-loop4 μ-loop4 Inv-loop μ-loop
 
 module _ (c : Joined) where
-  abbrev t9 : Turn
-  t9 = (c .before .before .before .before .before .before .before)
+  abbrev t10 : Turn
+  t10 = (c .before .before .before .before .before .before .before)
 
-  abbrev s9 : Sought
-  s9 = (c .before .before .before .before .before .before)
+  abbrev s10 : Sought
+  s10 = (c .before .before .before .before .before .before)
 
-  abbrev mail9 : Shelf Slot
-  mail9 = storedMail (N t9) (N-sound t9) (T t9) (T-means t9) (E t9) (E-says t9) (m s9)
+  abbrev mail10 : Shelf Slot
+  mail10 = storedMail (N t10) (N-sound t10) (T t10) (T-means t10) (E t10) (E-says t10) (m s10)
 
-  joined-is : c .if9 .node ≡ made (N t9) (processes8 (c .before)) mail9 (flightShelf (N t9))
+  joined-is : c .if10 .node ≡ made (N t10) (processes9 (c .before)) mail10 (flightShelf (N t10))
   unfolding slotNext waitingNext
   joined-is =
-      let n = N t9 in
-      let w0 = waits t9 in
-      let l = slots8 (c .before) in
-      let j = join n (N-sound t9) (T t9) (T-means t9) (E t9) (E-says t9) in
+      let n = N t10 in
+      let w0 = waits t10 in
+      let l = slots9 (c .before) in
+      let j = join n (N-sound t10) (T t10) (T-means t10) (E t10) (E-says t10) in
       let before = shifted-is (c .before) in
       let old = getD l j noMessage in
-      let fewer = cond (E t9 .receives) (w0 - 1) w0 in
+      let fewer = cond (ltb (m s10) (lastSlot t10)) (w0 - 1) w0 in
       ⊎-elim
       (λ w.
       let yes = w .0 .taken in
-      let slots : set l (16 * T t9 .at + w .1 .result) (slotOf (E t9 .message)) ≡ mail9 .cells =
-      (λ i. set l (16 * T t9 .at + w .1 .ensures i) (slotOf (E t9 .message))) ∙ sym (ap (λ (b : Bool). set l j (cond b (slotOf (E t9 .message)) old)) yes) in
-      let counts : set (set (n .waiting) (T t9 .at) fewer) (T t9 .at) (w .2 .result) ≡ mail9 .counts =
-      set-set (n .waiting) (T t9 .at) fewer (w .2 .result) ∙ ap (set (n .waiting) (T t9 .at)) (w .2 .ensures ∙ sym (ap (λ (b : Bool). cond b (min (w0 + 1) 255) fewer) yes)) in
+      let slots : set l (16 * T t10 .at + w .1 .result) (slotOf (E t10 .message)) ≡ mail10 .cells =
+      (λ i. set l (16 * T t10 .at + w .1 .ensures i) (slotOf (E t10 .message))) ∙ sym (ap (λ (b : Bool). set l j (cond b (slotOf (E t10 .message)) old)) yes) in
+      let counts : set (set (n .waiting) (T t10 .at) fewer) (T t10 .at) (w .2 .result) ≡ mail10 .counts =
+      set-set (n .waiting) (T t10 .at) fewer (w .2 .result) ∙ ap (set (n .waiting) (T t10 .at)) (w .2 .ensures ∙ sym (ap (λ (b : Bool). cond b (min (w0 + 1) 255) fewer) yes)) in
       w .3
-      ∙ ap (λ (q : Node). made q (q .processes) (record { cells = set (q .slots) (16 * T t9 .at + w .1 .result) (slotOf (E t9 .message)); counts = set (q .waiting) (T t9 .at) (w .2 .result) })
+      ∙ ap (λ (q : Node). made q (q .processes) (record { cells = set (q .slots) (16 * T t10 .at + w .1 .result) (slotOf (E t10 .message)); counts = set (q .waiting) (T t10 .at) (w .2 .result) })
       (flightShelf q)) before
-      ∙ (λ i. made n (processes8 (c .before)) (record { cells = slots i; counts = counts i }) (flightShelf n)))
+      ∙ (λ i. made n (processes9 (c .before)) (record { cells = slots i; counts = counts i }) (flightShelf n)))
       (λ w.
       let no = w .0 .left in
-      let slots : l ≡ mail9 .cells = sym (ap (λ (b : Bool). set l j (cond b (slotOf (E t9 .message)) old)) no ∙ set-getD l j noMessage) in
-      let counts : set (n .waiting) (T t9 .at) fewer ≡ mail9 .counts = sym (ap (λ (b : Bool). set (n .waiting) (T t9 .at) (cond b (min (w0 + 1) 255) fewer)) no) in
-      w .1 ∙ before ∙ (λ i. made n (processes8 (c .before)) (record { cells = slots i; counts = counts i }) (flightShelf n)))
-      (c .if9 .came)
+      let slots : l ≡ mail10 .cells = sym (ap (λ (b : Bool). set l j (cond b (slotOf (E t10 .message)) old)) no ∙ set-getD l j noMessage) in
+      let counts : set (n .waiting) (T t10 .at) fewer ≡ mail10 .counts = sym (ap (λ (b : Bool). set (n .waiting) (T t10 .at) (cond b (min (w0 + 1) 255) fewer)) no) in
+      w .1 ∙ before ∙ (λ i. made n (processes9 (c .before)) (record { cells = slots i; counts = counts i }) (flightShelf n)))
+      (c .if10 .came)
 
 abbrev Stored : Type 0
-Stored = tie.Joined10 Inv-loop2 μ-loop2 Inv-messages μ-messages Inv-loop3 μ-loop3 Inv-loop4 μ-loop4 Inv-loop μ-loop
+Stored = tie.Joined11 Inv-loop2 μ-loop2 Inv-messages μ-messages Inv-loop3 μ-loop3 Inv-loop4 μ-loop4 Inv-loop μ-loop
 
 module _ (c : Stored) where
   abbrev u : Turn
@@ -402,7 +487,7 @@ module _ (c : Stored) where
   abbrev flight : Shelf Cell
   flight = storedFlight (N u) (N-sound u) (T u) (T-means u) (E u) (E-says u)
 
-  stored-is : c .if10 .node ≡ made (N u) (processes8 (c .before .before)) (mail9 (c .before)) flight
+  stored-is : c .if11 .node ≡ made (N u) (processes9 (c .before .before)) (mail10 (c .before)) flight
   unfolding sentNext cellNext
   stored-is =
       let n = N u in
@@ -416,8 +501,8 @@ module _ (c : Stored) where
       (λ w.
       let yes = w .0 .taken in
       let row = w .1 .ensures .0 in
-      let kept : (c .before) .if9 .node .counts ≡ n .counts = ap (λ (q : Node). q .counts) before in
-      let had : getD ((c .before) .if9 .node .counts) (w .1 .result) 0 ≡ sent = (λ i. getD (kept i) (row i) 0) in
+      let kept : (c .before) .if10 .node .counts ≡ n .counts = ap (λ (q : Node). q .counts) before in
+      let had : getD ((c .before) .if10 .node .counts) (w .1 .result) 0 ≡ sent = (λ i. getD (kept i) (row i) 0) in
       let cell : w .3 .result ≡ at = w .3 .ensures .0 ∙ (λ i. cellAt (row i) (had i)) in
       let cells : set (n .cells) (w .3 .result) signal ≡ flight .cells = ap (λ (k : ℕ). set (n .cells) k signal) cell ∙ sym (ap (λ (b : Bool). set (n .cells) at (cond b signal old)) yes) in
       let more : w .4 .result ≡ min (sent + 1) 255 = w .4 .ensures ∙ ap (λ (k : ℕ). min (k + 1) 255) had in
@@ -425,13 +510,13 @@ module _ (c : Stored) where
       ∙ sym (ap (λ (b : Bool). set (n .counts) y (cond b (min (sent + 1) 255) sent)) yes) in
       w .5
       ∙ ap (λ (q : Node). made q (q .processes) (mailShelf q) (record { cells = set (q .cells) (w .3 .result) signal; counts = set (q .counts) (w .1 .result) (w .4 .result) })) before
-      ∙ (λ i. made n (processes8 (c .before .before)) (mail9 (c .before)) (record { cells = cells i; counts = counts i })))
+      ∙ (λ i. made n (processes9 (c .before .before)) (mail10 (c .before)) (record { cells = cells i; counts = counts i })))
       (λ w.
       let no = w .0 .left in
       let cells : n .cells ≡ flight .cells = sym (ap (λ (b : Bool). set (n .cells) at (cond b signal old)) no ∙ set-getD (n .cells) at noSignal) in
       let counts : n .counts ≡ flight .counts = sym (ap (λ (b : Bool). set (n .counts) y (cond b (min (sent + 1) 255) sent)) no ∙ set-getD (n .counts) y 0) in
-      w .1 ∙ before ∙ (λ i. made n (processes8 (c .before .before)) (mail9 (c .before)) (record { cells = cells i; counts = counts i })))
-      (c .if10 .came)
+      w .1 ∙ before ∙ (λ i. made n (processes9 (c .before .before)) (mail10 (c .before)) (record { cells = cells i; counts = counts i })))
+      (c .if11 .came)
 
 -- a birth, and an arrival, in a node
 abbrev birth-in : Node → ℕ → Process → Node
@@ -528,8 +613,8 @@ loop2-holds c =
     let last = last-is t ((c .before .before .before .before .before) .if1 .taken) ((c .before .before .before .before) .up-to .result) ((c .before .before .before .before) .up-to .ensures) in
     let f = message-at (N t) (N-sound t) (T t) (T-means t) (E t) (E-says t) ((c .before .before) .messages .m) (v .0) (subst (λ (k : ℕ). (c .before .before) .messages .m < k) last
     ((c .before) .messages-test .taken)) (v .3) in
-    let s : x t + 1 ≡ behindOp t = ap (λ (k : ℕ). k + 1) (x-is t) in
-    let e : x t + 1 - behindOp t ≡ 0 = omega (arith, s) in
+    let s : x t + 1 ≡ behindRecv t = ap (λ (k : ℕ). k + 1) (x-is t) in
+    let e : x t + 1 - behindRecv t ≡ 0 = omega (arith, s) in
     (omega (arith, s), refl, refl, rw e f)
 
 mul-clause : tie.Need-mul-clause Inv-loop2 μ-loop2 Inv-messages μ-messages Inv-loop3 μ-loop3 Inv-loop4 μ-loop4 Inv-loop μ-loop
@@ -594,6 +679,25 @@ messages-again c =
           from below (v .0) high (v .3),
     )
 
+at-most-requires : tie.Need-at-most-requires Inv-loop2 μ-loop2 Inv-messages μ-messages Inv-loop3 μ-loop3 Inv-loop4 μ-loop4 Inv-loop μ-loop
+at-most-requires c κs = tt
+
+mul-behind : tie.Need-mul-behind Inv-loop2 μ-loop2 Inv-messages μ-messages Inv-loop3 μ-loop3 Inv-loop4 μ-loop4 Inv-loop μ-loop
+mul-behind c = small (let h = c .at-most .ensures in omega (arith, h))
+
+element-copy-out-behind : tie.Need-element-copy-out-behind Inv-loop2 μ-loop2 Inv-messages μ-messages Inv-loop3 μ-loop3 Inv-loop4 μ-loop4 Inv-loop μ-loop
+element-copy-out-behind c = let h = c .at-most .ensures in omega (arith, h)
+
+moved-requires : tie.Need-moved-requires Inv-loop2 μ-loop2 Inv-messages μ-messages Inv-loop3 μ-loop3 Inv-loop4 μ-loop4 Inv-loop μ-loop
+moved-requires c κs = tt
+
+element-copy-out-timeout-refusal : tie.Need-element-copy-out-timeout-refusal Inv-loop2 μ-loop2 Inv-messages μ-messages Inv-loop3 μ-loop3 Inv-loop4 μ-loop4 Inv-loop μ-loop
+element-copy-out-timeout-refusal c =
+    (c .before .before .before .before .before .before .before .before .before .before .before .before .before .before .before .before) .behaviour-index .ensures .1
+
+timeout-refusal-requires : tie.Need-timeout-refusal-requires Inv-loop2 μ-loop2 Inv-messages μ-messages Inv-loop3 μ-loop3 Inv-loop4 μ-loop4 Inv-loop μ-loop
+timeout-refusal-requires c κs = tt
+
 row-index-requires : tie.Need-row-index-requires Inv-loop2 μ-loop2 Inv-messages μ-messages Inv-loop3 μ-loop3 Inv-loop4 μ-loop4 Inv-loop μ-loop
 row-index-requires c κs = tt
 
@@ -619,7 +723,7 @@ loop-less : tie.Need-loop-less Inv-loop2 μ-loop2 Inv-messages μ-messages Inv-l
 loop-less c = let h = in-list (c .before .before .before .before .before) in omega (arith, h)
 
 loop-again : tie.Need-loop-again Inv-loop2 μ-loop2 Inv-messages μ-messages Inv-loop3 μ-loop3 Inv-loop4 μ-loop4 Inv-loop μ-loop
-loop-again c = looks-on (c .before .before .before .before .before) (c .if6 .taken) _ (refuses (c .before .before) ((c .before) .if5 .taken))
+loop-again c = looks-on (c .before .before .before .before .before) (c .if7 .taken) _ (refuses (c .before .before) ((c .before) .if6 .taken))
 
 ended-requires : tie.Need-ended-requires Inv-loop2 μ-loop2 Inv-messages μ-messages Inv-loop3 μ-loop3 Inv-loop4 μ-loop4 Inv-loop μ-loop
 ended-requires c κs = tt
@@ -627,8 +731,8 @@ ended-requires c κs = tt
 returns : tie.Need-returns Inv-loop2 μ-loop2 Inv-messages μ-messages Inv-loop3 μ-loop3 Inv-loop4 μ-loop4 Inv-loop μ-loop
 returns c =
     let t = (c .before .before .before .before .before .before) in
-    let q = (c .before) .if6 .left in (
-      λ _. c .ended .ensures ∙ stop (numbers t) (count t) (N t) _ (in-list t) (N-sound t) (played-on t q) (refuses (c .before .before .before) ((c .before .before) .if5 .taken)),
+    let q = (c .before) .if7 .left in (
+      λ _. c .ended .ensures ∙ stop (numbers t) (count t) (N t) _ (in-list t) (N-sound t) (played-on t q) (refuses (c .before .before .before) ((c .before .before) .if6 .taken)),
       λ e. absurd (false≢true (sym q ∙ e)),
     )
 
@@ -638,10 +742,10 @@ ended-requires-2 c κs = tt
 returns-2 : tie.Need-returns-2 Inv-loop2 μ-loop2 Inv-messages μ-messages Inv-loop3 μ-loop3 Inv-loop4 μ-loop4 Inv-loop μ-loop
 returns-2 c =
     let t = (c .before .before .before .before .before .before) in
-    let q = (c .before) .if7 .taken in (
+    let q = (c .before) .if8 .taken in (
       λ e. absurd (false≢true (sym e ∙ q)),
       λ _. ap (λ (r : Outcome). r .accepted) (c .ended2 .ensures) ∙ look-stop (n₀ t) (numbers t) (count t) (N t) (N-sound t) (looked t q) _ (in-list t)
-          (commits (c .before .before .before) ((c .before .before) .if5 .left) .answer),
+          (commits (c .before .before .before) ((c .before .before) .if6 .left) .answer),
     )
 
 mul-next : tie.Need-mul-next Inv-loop2 μ-loop2 Inv-messages μ-messages Inv-loop3 μ-loop3 Inv-loop4 μ-loop4 Inv-loop μ-loop
@@ -709,8 +813,8 @@ up-to-requires-2 c κs = tt
 add-join : tie.Need-add-join Inv-loop2 μ-loop2 Inv-messages μ-messages Inv-loop3 μ-loop3 Inv-loop4 μ-loop4 Inv-loop μ-loop
 add-join c = small (let h = at-bound (c .before .before .before .before .before .before .before .before) in let e = c .up-to2 .ensures in omega (arith, h, e))
 
-mul-t103 : tie.Need-mul-t103 Inv-loop2 μ-loop2 Inv-messages μ-messages Inv-loop3 μ-loop3 Inv-loop4 μ-loop4 Inv-loop μ-loop
-mul-t103 c = small (let h = at-bound (c .before .before .before .before .before .before .before .before) in let e = c .up-to2 .ensures in omega (arith, h, e))
+mul-t113 : tie.Need-mul-t113 Inv-loop2 μ-loop2 Inv-messages μ-messages Inv-loop3 μ-loop3 Inv-loop4 μ-loop4 Inv-loop μ-loop
+mul-t113 c = small (let h = at-bound (c .before .before .before .before .before .before .before .before) in let e = c .up-to2 .ensures in omega (arith, h, e))
 
 element-set-from-node : tie.Need-element-set-from-node Inv-loop2 μ-loop2 Inv-messages μ-messages Inv-loop3 μ-loop3 Inv-loop4 μ-loop4 Inv-loop μ-loop
 element-set-from-node c = let h = at-bound (c .before .before .before .before .before .before .before .before) in let e = c .up-to2 .ensures in omega (arith, h, e)
@@ -730,8 +834,8 @@ element-copy-out-sent c = c .row-index2 .ensures .1
 cell-index-requires : tie.Need-cell-index-requires Inv-loop2 μ-loop2 Inv-messages μ-messages Inv-loop3 μ-loop3 Inv-loop4 μ-loop4 Inv-loop μ-loop
 cell-index-requires c κs = (c .before) .row-index2 .ensures .1
 
-mul-t114 : tie.Need-mul-t114 Inv-loop2 μ-loop2 Inv-messages μ-messages Inv-loop3 μ-loop3 Inv-loop4 μ-loop4 Inv-loop μ-loop
-mul-t114 c = small (let h = c .cell-index .ensures .1 in omega (arith, h))
+mul-t124 : tie.Need-mul-t124 Inv-loop2 μ-loop2 Inv-messages μ-messages Inv-loop3 μ-loop3 Inv-loop4 μ-loop4 Inv-loop μ-loop
+mul-t124 c = small (let h = c .cell-index .ensures .1 in omega (arith, h))
 
 element-set-from-node-2 : tie.Need-element-set-from-node-2 Inv-loop2 μ-loop2 Inv-messages μ-messages Inv-loop3 μ-loop3 Inv-loop4 μ-loop4 Inv-loop μ-loop
 element-set-from-node-2 c = c .cell-index .ensures .1
@@ -748,8 +852,8 @@ process-index-requires-2 c κs = tt
 fresh-requires : tie.Need-fresh-requires Inv-loop2 μ-loop2 Inv-messages μ-messages Inv-loop3 μ-loop3 Inv-loop4 μ-loop4 Inv-loop μ-loop
 fresh-requires c κs = tt
 
-mul-t121 : tie.Need-mul-t121 Inv-loop2 μ-loop2 Inv-messages μ-messages Inv-loop3 μ-loop3 Inv-loop4 μ-loop4 Inv-loop μ-loop
-mul-t121 c = small (let h = (c .before .before) .process-index2 .ensures .1 in omega (arith, h))
+mul-t131 : tie.Need-mul-t131 Inv-loop2 μ-loop2 Inv-messages μ-messages Inv-loop3 μ-loop3 Inv-loop4 μ-loop4 Inv-loop μ-loop
+mul-t131 c = small (let h = (c .before .before) .process-index2 .ensures .1 in omega (arith, h))
 
 element-set-from-node-3 : tie.Need-element-set-from-node-3 Inv-loop2 μ-loop2 Inv-messages μ-messages Inv-loop3 μ-loop3 Inv-loop4 μ-loop4 Inv-loop μ-loop
 element-set-from-node-3 c = (c .before .before) .process-index2 .ensures .1
@@ -763,10 +867,10 @@ loop-less-2 c = let h = in-list (c .before .before .before .before .before .befo
 loop-again-2 : tie.Need-loop-again-2 Inv-loop2 μ-loop2 Inv-messages μ-messages Inv-loop3 μ-loop3 Inv-loop4 μ-loop4 Inv-loop μ-loop
 loop-again-2 c =
     let t = (c .before .before .before .before .before .before .before .before .before .before .before .before) in
-    let w = commits (c .before .before .before .before .before .before .before .before .before) ((c .before .before .before .before .before .before .before .before) .if5 .left) in
-    plays-on t ((c .before .before .before .before .before .before .before) .if7 .left) _ _
+    let w = commits (c .before .before .before .before .before .before .before .before .before) ((c .before .before .before .before .before .before .before .before) .if6 .left) in
+    plays-on t ((c .before .before .before .before .before .before .before) .if8 .left) _ _
     ((λ i. birth-in (stored-is (c .before .before .before .before) i) ((c .before .before) .process-index2 .ensures .0 i) (c .fresh .ensures i)) ∙ stored-birth (N t) (N-sound t) (T t) (T-means t)
-    (E t) (E-says t) (w .cleared) w ((c .before .before .before) .if11 .taken))
+    (E t) (E-says t) (w .cleared) w ((c .before .before .before) .if12 .taken))
     (w .answer)
 
 mul-f : tie.Need-mul-f Inv-loop2 μ-loop2 Inv-messages μ-messages Inv-loop3 μ-loop3 Inv-loop4 μ-loop4 Inv-loop μ-loop
@@ -814,17 +918,17 @@ loop4-again c =
     let h = (c .before) .loop4-test .taken in
     let b = arrival-bound t in
     let clear = commits (c .before .before .before .before .before .before .before .before .before .before)
-    ((c .before .before .before .before .before .before .before .before .before) .if5 .left) .cleared in
-    let size : length ((c .before .before .before .before .before) .if10 .node .cells) ≡ 1024 = ap (λ (x : Node). length (x .cells)) (stored-is (c .before .before .before .before .before))
+    ((c .before .before .before .before .before .before .before .before .before) .if6 .left) .cleared in
+    let size : length ((c .before .before .before .before .before) .if11 .node .cells) ≡ 1024 = ap (λ (x : Node). length (x .cells)) (stored-is (c .before .before .before .before .before))
     ∙ stored-cells (N t) (N-sound t) (T t) (T-means t) (E t) (E-says t) clear in
-    let room : 4 * T t .row + 3 + 1 ≤ length ((c .before .before .before .before .before) .if10 .node .cells) = subst (λ (k : ℕ). 4 * T t .row + 3 + 1 ≤ k) (sym size) (omega (arith, b)) in
+    let room : 4 * T t .row + 3 + 1 ≤ length ((c .before .before .before .before .before) .if11 .node .cells) = subst (λ (k : ℕ). 4 * T t .row + 3 + 1 ≤ k) (sym size) (omega (arith, b)) in
     ((λ i. withCells (v .0 i) (set (q .cells) ((c .before .before) .loop4 .f) (getD (q .cells) ((c .before .before) .loop4 .f + 1) noSignal))), moved-more noSignal (v .1) (omega (arith, h)) room)
 
 blank-requires : tie.Need-blank-requires Inv-loop2 μ-loop2 Inv-messages μ-messages Inv-loop3 μ-loop3 Inv-loop4 μ-loop4 Inv-loop μ-loop
 blank-requires c κs = tt
 
-mul-t135 : tie.Need-mul-t135 Inv-loop2 μ-loop2 Inv-messages μ-messages Inv-loop3 μ-loop3 Inv-loop4 μ-loop4 Inv-loop μ-loop
-mul-t135 c = small (let h = arrival-bound (c .before .before .before .before .before .before .before .before .before .before .before .before .before) in omega (arith, h))
+mul-t145 : tie.Need-mul-t145 Inv-loop2 μ-loop2 Inv-messages μ-messages Inv-loop3 μ-loop3 Inv-loop4 μ-loop4 Inv-loop μ-loop
+mul-t145 c = small (let h = arrival-bound (c .before .before .before .before .before .before .before .before .before .before .before .before .before) in omega (arith, h))
 
 element-set-from-node-4 : tie.Need-element-set-from-node-4 Inv-loop2 μ-loop2 Inv-messages μ-messages Inv-loop3 μ-loop3 Inv-loop4 μ-loop4 Inv-loop μ-loop
 element-set-from-node-4 c = let h = arrival-bound (c .before .before .before .before .before .before .before .before .before .before .before .before .before) in omega (arith, h)
@@ -847,20 +951,20 @@ loop-again-3 c =
     let stored = stored-is (c .before .before .before .before .before .before .before) in
     let behind = flight (c .before .before .before .before .before .before .before) in
     let w = commits (c .before .before .before .before .before .before .before .before .before .before .before .before)
-    ((c .before .before .before .before .before .before .before .before .before .before .before) .if5 .left) in
+    ((c .before .before .before .before .before .before .before .before .before .before .before) .if6 .left) in
     let v = (c .before .before .before .before) .loop4 .inv in
     let q = (c .before .before .before .before) .loop4 .node in
     let shift : List Cell → List Cell = up (4 * T t .row) (4 * T t .row + 4) in
     let end : 4 * T t .row + 3 + 1 ≡ 4 * T t .row + 4 = omega arith in
     let h = (c .before .before .before) .loop4-test .left in
-    let cells = moved-end (v .1) (omega (arith, h)) ∙ ap (λ (k : ℕ). up (4 * T t .row) k ((c .before .before .before .before .before .before .before) .if10 .node .cells)) end in
+    let cells = moved-end (v .1) (omega (arith, h)) ∙ ap (λ (k : ℕ). up (4 * T t .row) k ((c .before .before .before .before .before .before .before) .if11 .node .cells)) end in
     let moved : q ≡ withCells (made (N t) _ _ behind) (shift (behind .cells)) =
-    v .0 ∙ ap (withCells ((c .before .before .before .before .before .before .before) .if10 .node)) cells ∙ ap (λ (x : Node). withCells x (shift (x .cells))) stored in
+    v .0 ∙ ap (withCells ((c .before .before .before .before .before .before .before) .if11 .node)) cells ∙ ap (λ (x : Node). withCells x (shift (x .cells))) stored in
     let fewer = c .fallen2 .ensures ∙ ap (λ (x : Node). getD (x .counts) (T t .row) 0 - 1) moved in
-    plays-on t ((c .before .before .before .before .before .before .before .before .before .before) .if7 .left) _ _
+    plays-on t ((c .before .before .before .before .before .before .before .before .before .before) .if8 .left) _ _
     ((λ i. arrival-in (moved i) (T t .row) ((c .before .before) .blank .ensures i) (fewer i))
     ∙ stored-arrival (N t) (N-sound t) (T t) (T-means t) (E t) (E-says t) (w .cleared) w (arrival-bound t)
-    ((c .before .before .before .before .before) .if12 .taken) ((c .before .before .before .before .before .before) .if11 .left))
+    ((c .before .before .before .before .before) .if13 .taken) ((c .before .before .before .before .before .before) .if12 .left))
     (w .answer)
 
 loop-less-4 : tie.Need-loop-less-4 Inv-loop2 μ-loop2 Inv-messages μ-messages Inv-loop3 μ-loop3 Inv-loop4 μ-loop4 Inv-loop μ-loop
@@ -869,9 +973,9 @@ loop-less-4 c = let h = in-list (c .before .before .before .before .before .befo
 loop-again-4 : tie.Need-loop-again-4 Inv-loop2 μ-loop2 Inv-messages μ-messages Inv-loop3 μ-loop3 Inv-loop4 μ-loop4 Inv-loop μ-loop
 loop-again-4 c =
     let t = (c .before .before .before .before .before .before .before .before .before .before) in
-    let w = commits (c .before .before .before .before .before .before .before) ((c .before .before .before .before .before .before) .if5 .left) in
-    plays-on t ((c .before .before .before .before .before) .if7 .left) _ _
-    (stored-is (c .before .before) ∙ stored-run (N t) (N-sound t) (T t) (T-means t) (E t) (E-says t) (w .cleared) w (c .if12 .left) ((c .before) .if11 .left))
+    let w = commits (c .before .before .before .before .before .before .before) ((c .before .before .before .before .before .before) .if6 .left) in
+    plays-on t ((c .before .before .before .before .before) .if8 .left) _ _
+    (stored-is (c .before .before) ∙ stored-run (N t) (N-sound t) (T t) (T-means t) (E t) (E-says t) (w .cleared) w (c .if13 .left) ((c .before) .if12 .left))
     (w .answer)
 
 ended-requires-3 : tie.Need-ended-requires-3 Inv-loop2 μ-loop2 Inv-messages μ-messages Inv-loop3 μ-loop3 Inv-loop4 μ-loop4 Inv-loop μ-loop
@@ -940,6 +1044,12 @@ core-spec =
     add-m
     messages-less
     messages-again
+    at-most-requires
+    mul-behind
+    element-copy-out-behind
+    moved-requires
+    element-copy-out-timeout-refusal
+    timeout-refusal-requires
     row-index-requires
     element-copy-out-pair-refusal
     pair-refusal-requires
@@ -969,20 +1079,20 @@ core-spec =
     loop3-again
     up-to-requires-2
     add-join
-    mul-t103
+    mul-t113
     element-set-from-node
     risen-requires
     element-write-node-2
     row-index-requires-2
     element-copy-out-sent
     cell-index-requires
-    mul-t114
+    mul-t124
     element-set-from-node-2
     risen-requires-2
     element-write-node-3
     process-index-requires-2
     fresh-requires
-    mul-t121
+    mul-t131
     element-set-from-node-3
     element-write-node-4
     loop-less-2
@@ -999,7 +1109,7 @@ core-spec =
     loop4-less
     loop4-again
     blank-requires
-    mul-t135
+    mul-t145
     element-set-from-node-4
     element-copy-out-fallen
     fallen-requires-2

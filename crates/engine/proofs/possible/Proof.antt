@@ -1,11 +1,11 @@
 -- `possible` counts the steps of each owner. Assumes nothing.
 use borrow.Author.Needs.{needs}
+use Rattle.engine.specs.Answers.{possibleStep}
 use Rattle.engine.proofs.possible.Statement.{statement}
 use Rattle.engine.proofs.possible.Tie as tie
-use Rattle.engine.proofs.Calls.{possible-run, possible-arrive}
 
-cast-from : tie.Need-cast-from
-cast-from c = search needs
+cast-turn : tie.Need-cast-turn
+cast-turn c = search needs
 
 cast-owner : tie.Need-cast-owner
 cast-owner c = search needs
@@ -13,17 +13,15 @@ cast-owner c = search needs
 add-owner : tie.Need-add-owner
 add-owner c = search needs
 
-returns : tie.Need-returns
-returns c =
-    let its-args = c .before .args in
-    let its-if1 = c .if1 in
-    possible-run (its-args .k) (its-if1 .taken)
+possible-kind-requires : tie.Need-possible-kind-requires
+possible-kind-requires c κs = search needs
 
-returns-2 : tie.Need-returns-2
-returns-2 c =
-    let its-args = c .before .args in
-    let its-if1 = c .if1 in
-    possible-arrive (its-args .k) (its-if1 .left)
+fallen-requires : tie.Need-fallen-requires
+fallen-requires c κs = search needs
+
+returns : tie.Need-returns
+unfolding possibleStep
+returns c = rw (c .before .possible-kind .ensures, c .fallen .ensures)
 
 pub possible-spec : {M : Type 1} → statement M
-possible-spec = tie.close (tie.spec cast-from cast-owner add-owner returns returns-2)
+possible-spec = tie.close (tie.spec cast-turn cast-owner add-owner possible-kind-requires fallen-requires returns)

@@ -10,10 +10,10 @@ use Rattle.engine.proofs.possible_numbers.Statement.{statement}
 use Rattle.engine.proofs.possible_numbers.Tie as tie
 
 abbrev Inv-loop : tie.InvT-loop
-Inv-loop numbers₀ k₀ numbers k = (k ≤ 272) × (length numbers ≡ 272) × Filled numbers k
+Inv-loop numbers₀ k₀ numbers k = (k ≤ 288) × (length numbers ≡ 288) × Filled numbers k
 
 abbrev μ-loop : tie.MeasureT-loop
-μ-loop numbers₀ k₀ numbers k = 272 - k
+μ-loop numbers₀ k₀ numbers k = 288 - k
 
 loop-holds : tie.Need-loop-holds Inv-loop μ-loop
 loop-holds c = (omega arith, refl, λ j h. absurd (omega (arith, h)))

@@ -1,4 +1,4 @@
--- `misplaced_in` walks the ops of a behaviour. The loop keeps how many clauses are due, and that the ops that are left give the answer.
+-- `misplaced_in` walks the ops of a behaviour. The loop keeps how many parts of a recv may stand, and that the ops that are left give the answer.
 -- Assumes nothing.
 use mathlib.Core.Path.{_≡_, refl, _∙_}
 use Prim.Native.Nat.{_≤_, _+_, _-_}

@@ -1,6 +1,6 @@
 -- `read_line` gives what a line is: its key decides. Assumes nothing.
 use borrow.Author.Needs.{needs}
-use Rattle.schedule.proofs.Lines.{line-run-long, line-run, line-arrive-long, line-arrive, line-other}
+use Rattle.schedule.proofs.Lines.{line-run-long, line-run, line-arrive-long, line-arrive, line-timeout-long, line-timeout, line-other}
 use Rattle.schedule.proofs.read_line.Statement.{statement}
 use Rattle.schedule.proofs.read_line.Tie as tie
 
@@ -10,26 +10,20 @@ slice-aggregate-starts c = search needs
 starts-requires : tie.Need-starts-requires
 starts-requires c κs = search needs
 
-sub-read-ranged : tie.Need-sub-read-ranged
-sub-read-ranged c = line-run-long _ (c .before .starts .ensures) (c .if1 .taken)
+sub-own : tie.Need-sub-own
+sub-own c = line-run-long _ (c .before .starts .ensures) (c .if1 .taken)
 
-part-read-ranged-start : tie.Need-part-read-ranged-start
-part-read-ranged-start c = line-run-long _ (c .before .starts .ensures) (c .if1 .taken)
+part-own-start : tie.Need-part-own-start
+part-own-start c = line-run-long _ (c .before .starts .ensures) (c .if1 .taken)
 
-part-read-ranged-end : tie.Need-part-read-ranged-end
-part-read-ranged-end c = search needs
+part-own-end : tie.Need-part-own-end
+part-own-end c = search needs
 
-read-ranged-requires : tie.Need-read-ranged-requires
-read-ranged-requires c κs = search needs
-
-packed-requires : tie.Need-packed-requires
-packed-requires c κs = search needs
+own-requires : tie.Need-own-requires
+own-requires c κs = search needs
 
 returns : tie.Need-returns
-returns c =
-    let if1 = c .before .before .before .if1 in
-    let starts = c .before .before .before .before .starts in
-    line-run _ (starts .ensures) (if1 .taken) (c .before .read-ranged .ensures) (c .packed .ensures)
+returns c = line-run _ (c .before .before .before .starts .ensures) (c .before .before .if1 .taken) (c .own .ensures)
 
 slice-aggregate-starts-2 : tie.Need-slice-aggregate-starts-2
 slice-aggregate-starts-2 c = search needs
@@ -51,17 +45,39 @@ arrival-requires c κs = search needs
 
 returns-2 : tie.Need-returns-2
 returns-2 c =
-    let if1 = c .before .before .before .before .before .if1 in
-    let if2 = c .before .before .if2 in
-    let starts = c .before .before .before .before .before .before .starts in
-    let starts2 = c .before .before .before .starts2 in
-    line-arrive _ (starts .ensures) (if1 .left) (starts2 .ensures) (if2 .taken) (c .arrival .ensures)
+    let d = c .before .before .before in
+    line-arrive _ (d .before .before .before .starts .ensures) (d .before .before .if1 .left) (d .starts2 .ensures) (c .before .before .if2 .taken) (c .arrival .ensures)
+
+slice-aggregate-starts-3 : tie.Need-slice-aggregate-starts-3
+slice-aggregate-starts-3 c = search needs
+
+starts-requires-3 : tie.Need-starts-requires-3
+starts-requires-3 c κs = search needs
+
+sub-own-2 : tie.Need-sub-own-2
+sub-own-2 c = line-timeout-long _ (c .before .starts3 .ensures) (c .if3 .taken)
+
+part-own-start-2 : tie.Need-part-own-start-2
+part-own-start-2 c = line-timeout-long _ (c .before .starts3 .ensures) (c .if3 .taken)
+
+part-own-end-2 : tie.Need-part-own-end-2
+part-own-end-2 c = search needs
+
+own-requires-2 : tie.Need-own-requires-2
+own-requires-2 c κs = search needs
 
 returns-3 : tie.Need-returns-3
 returns-3 c =
-    let if1 = c .before .before .before .if1 in
-    let starts = c .before .before .before .before .starts in
-    line-other _ (starts .ensures) (if1 .left) (c .before .starts2 .ensures) (c .if2 .left)
+    let d = c .before .before .before in
+    let b = d .before .before .before in
+    line-timeout _ (b .before .before .before .starts .ensures) (b .before .before .if1 .left) (b .starts2 .ensures) (d .before .before .if2 .left) (d .starts3 .ensures) (c .before .before .if3 .taken)
+    (c .own2 .ensures)
+
+returns-4 : tie.Need-returns-4
+returns-4 c =
+    let d = c .before in
+    let b = d .before .before .before in
+    line-other _ (b .before .before .before .starts .ensures) (b .before .before .if1 .left) (b .starts2 .ensures) (d .before .before .if2 .left) (d .starts3 .ensures) (c .if3 .left)
 
 pub read-line-spec : {M : Type 1} → statement M
 read-line-spec =
@@ -69,11 +85,10 @@ read-line-spec =
     (tie.spec
     slice-aggregate-starts
     starts-requires
-    sub-read-ranged
-    part-read-ranged-start
-    part-read-ranged-end
-    read-ranged-requires
-    packed-requires
+    sub-own
+    part-own-start
+    part-own-end
+    own-requires
     returns
     slice-aggregate-starts-2
     starts-requires-2
@@ -82,4 +97,11 @@ read-line-spec =
     part-arrival-end
     arrival-requires
     returns-2
-    returns-3)
+    slice-aggregate-starts-3
+    starts-requires-3
+    sub-own-2
+    part-own-start-2
+    part-own-end-2
+    own-requires-2
+    returns-3
+    returns-4)

@@ -4,11 +4,12 @@ use second::reorder;
 
 fn main() {
     let (seed, count) = second::arguments::seed_and_count("reorder");
-    let (mut steps, mut differs, mut skipped) = (0, 0, 0);
+    let (mut steps, mut timeouts, mut differs, mut skipped) = (0, 0, 0, 0);
     for k in 0..count {
         match reorder::check(seed, k) {
             Ok(report) => {
                 steps += report.steps;
+                timeouts += report.timeouts;
                 differs += usize::from(report.differs);
                 skipped += report.skipped;
             }
@@ -18,5 +19,7 @@ fn main() {
             }
         }
     }
-    println!("checks {count}, in another order {differs}, steps {steps}, refused steps skipped {skipped}");
+    println!(
+        "checks {count}, in another order {differs}, steps {steps}, of which timeouts {timeouts}, refused steps skipped {skipped}"
+    );
 }

@@ -44,7 +44,7 @@ fn byte_lines(draft: &Draft) -> Vec<Vec<u8>> {
 
 /// A plan with a mistake that gives 11, 12, 13 or 14.
 pub fn bad_plan(random: &mut Random, draft: &Draft) -> Damaged {
-    match random.weighted(&[38, 34, 10, 18]) {
+    match random.weighted(&[36, 32, 8, 24]) {
         0 => bad_form(random, draft),
         1 => out_of_range(random, draft),
         2 => not_rising(random, draft),
@@ -223,48 +223,58 @@ fn stray_byte(random: &mut Random, draft: &Draft) -> Damaged {
     Damaged::at(&lines, plan::BAD_FORM, index)
 }
 
+/// Words that are no op.
+const BAD_WORDS: [&[u8]; 15] = [
+    b"op=",
+    b"op=Set",
+    b"op=sets",
+    b"op=nop",
+    b"op=recv ",
+    b"op=par",
+    b"op=Monitor",
+    b"op=monitors",
+    b"op=demonito",
+    b"op=down",
+    b"op=After",
+    b"op=afters",
+    b"op=afte",
+    b"op=timeout",
+    b"op=run",
+];
+
+/// What no k of a clause is.
+const BAD_KINDS: [&[u8]; 18] = [
+    b"Any",
+    b"anything",
+    b"integer",
+    b"atoms",
+    b"p",
+    b"",
+    b"none",
+    b"i",
+    b"in",
+    b"7",
+    b"notes",
+    b"a",
+    b"Down",
+    b"downs",
+    b"dow",
+    b"d",
+    b"monitor",
+    b"after",
+];
+
 /// A word that is no op, or a clause's k that is none.
 fn unknown_word(random: &mut Random, draft: &Draft) -> Damaged {
     let mut lines = byte_lines(draft);
     let (behaviour, place) = some_op(random, draft);
     let index = draft.line_of(behaviour, place) - 1;
     let fields = crate::text::parts(&lines[index]);
-    let words: &[&[u8]] = &[
-        b"op=",
-        b"op=Set",
-        b"op=sets",
-        b"op=nop",
-        b"op=recv ",
-        b"op=par",
-        b"op=Monitor",
-        b"op=monitors",
-        b"op=demonito",
-        b"op=down",
-    ];
     let mut changed: Vec<Vec<u8>> = fields.iter().map(|field| field.to_vec()).collect();
     if fields[0] == b"op=clause" && random.chance(70) {
-        let kinds: &[&[u8]] = &[
-            b"Any",
-            b"anything",
-            b"integer",
-            b"atoms",
-            b"p",
-            b"",
-            b"none",
-            b"i",
-            b"in",
-            b"7",
-            b"notes",
-            b"a",
-            b"Down",
-            b"downs",
-            b"dow",
-            b"d",
-            b"monitor",
-        ];
-        changed[1] = random.pick(kinds).to_vec();
+        changed[1] = random.pick(&BAD_KINDS).to_vec();
     } else {
-        changed[0] = random.pick(words).to_vec();
+        changed[0] = random.pick(&BAD_WORDS).to_vec();
     }
     lines[index] = changed.join(&b',');
     Damaged::at(&lines, plan::BAD_FORM, index)
@@ -327,41 +337,44 @@ impl OpLine {
     }
 }
 
-/// Some op line of a plan; at times an op of any word, written in place of a plain op. That a recv
-/// or a clause does not belong there is not told, because the line itself is damaged.
+/// An op of each word; words whose operands are of a rarer kind stand here more than once.
+const ANY_WORD: [&str; 31] = [
+    "set,0,i1",
+    "copy,0,1",
+    "self,0",
+    "add,0,1",
+    "send,0,1",
+    "exit,0,1",
+    "link,0",
+    "unlink,0",
+    "monitor,0",
+    "demonitor,0",
+    "trap,1",
+    "trap,0",
+    "spawn,0,1,1",
+    "spawn,0,1,1",
+    "spawn,0,1,1",
+    "spawn,0,1,1",
+    "spawn,0,1,1",
+    "recv,1",
+    "recv,8",
+    "clause,any,0,0,0",
+    "clause,i1,0,0,0",
+    "clause,down,0,0,0",
+    "after,0",
+    "after,0",
+    "jump,0",
+    "jump,0",
+    "jump,0",
+    "same,0,i1,0",
+    "same,0,a1,0",
+    "less,0,1,0",
+    "stop,0",
+];
+
+/// Some op line of a plan; at times an op of any word, written in place of a plain op. That a recv,
+/// a clause or an `after` does not belong there is not told, because the line itself is damaged.
 fn some_op_line(random: &mut Random, draft: &Draft) -> OpLine {
-    // Words whose operands are of a rarer kind stand here more than once.
-    const ANY_WORD: [&str; 29] = [
-        "set,0,i1",
-        "copy,0,1",
-        "self,0",
-        "add,0,1",
-        "send,0,1",
-        "exit,0,1",
-        "link,0",
-        "unlink,0",
-        "monitor,0",
-        "demonitor,0",
-        "trap,1",
-        "trap,0",
-        "spawn,0,1,1",
-        "spawn,0,1,1",
-        "spawn,0,1,1",
-        "spawn,0,1,1",
-        "spawn,0,1,1",
-        "recv,1",
-        "recv,8",
-        "clause,any,0,0,0",
-        "clause,i1,0,0,0",
-        "clause,down,0,0,0",
-        "jump,0",
-        "jump,0",
-        "jump,0",
-        "same,0,i1,0",
-        "same,0,a1,0",
-        "less,0,1,0",
-        "stop,0",
-    ];
     let lines = byte_lines(draft);
     let (behaviour, mut place) = some_op(random, draft);
     let code = &draft.behaviours[behaviour];
@@ -562,20 +575,15 @@ fn not_rising(random: &mut Random, draft: &Draft) -> Damaged {
 
 // Damage that gives 14.
 
-/// Misplaced clauses or targets, in one behaviour or two. A 13 in a later line is told instead,
-/// because 14 is looked for after the last line.
+/// Misplaced clauses, afters or targets, in one behaviour or two. A 13 in a later line is told
+/// instead, because 14 is looked for after the last line.
 fn bad_clauses(random: &mut Random, draft: &Draft) -> Damaged {
     let mut draft = draft.clone();
     let mut lowest = None;
     let rounds = if random.chance(25) { 2 } else { 1 };
     for _ in 0..rounds {
-        let behaviour = some_index(random, draft.behaviours.len());
-        let place = match random.below(4) {
-            0 => recv_at_the_end(random, &mut draft.behaviours[behaviour]),
-            1 => larger_recv(random, &mut draft.behaviours[behaviour]),
-            2 => stray_clause(random, &mut draft.behaviours[behaviour]),
-            _ => target_on_clause(random, &mut draft.behaviours[behaviour]),
-        };
+        let behaviour = some_behaviour(random, &draft);
+        let place = misplace(random, &mut draft.behaviours[behaviour]);
         let place = lowest_bad_place(&draft.behaviours[behaviour], place);
         let line = draft.line_of(behaviour, place);
         lowest = Some(lowest.map_or(line, |lowest: usize| lowest.min(line)));
@@ -590,24 +598,71 @@ fn bad_clauses(random: &mut Random, draft: &Draft) -> Damaged {
     }
 }
 
-/// The damaged place or, if a clause stands there now, an earlier op that aims at it. A second
-/// damage can name the place behind the code.
+/// A behaviour, mostly one that has an `after`.
+fn some_behaviour(random: &mut Random, draft: &Draft) -> usize {
+    let has_after = |&behaviour: &usize| !afters_of(&draft.behaviours[behaviour]).is_empty();
+    let behaviours: Vec<usize> = (0..draft.behaviours.len()).filter(has_after).collect();
+    if behaviours.is_empty() || random.chance(30) {
+        return some_index(random, draft.behaviours.len());
+    }
+    *random.pick(&behaviours)
+}
+
+/// A damage of one code. The answer is the place that is bad by it.
+fn misplace(random: &mut Random, code: &mut Vec<Op>) -> usize {
+    match random.below(10) {
+        0 => recv_at_the_end(random, code),
+        1 => larger_recv(random, code),
+        2 => stray_clause(random, code),
+        3..=5 => bad_target(random, code),
+        6 => stray_after(random, code),
+        7..=8 => second_after(random, code),
+        _ => after_for_clause(random, code),
+    }
+}
+
+/// The damaged place or, if a clause or an `after` stands there now, an earlier op that aims at it. A
+/// second damage can name the place behind the code.
 fn lowest_bad_place(code: &[Op], place: usize) -> usize {
     let aims_here = |op: &Op| target_of(*op) == Some(place);
     match code.iter().position(aims_here) {
-        Some(earlier) if matches!(code.get(place), Some(Op::Clause(_))) => place.min(earlier),
+        Some(earlier) if matches!(code.get(place), Some(Op::Clause(_) | Op::After(_))) => {
+            place.min(earlier)
+        }
         _ => place,
     }
 }
 
-/// The places of a code that are no clause and no recv.
-fn plain_places(code: &[Op]) -> Vec<usize> {
-    let plain = |op: &Op| !matches!(op, Op::Clause(_) | Op::Recv(_));
-    let places = code.iter().enumerate();
-    places
-        .filter(|(_, op)| plain(op))
-        .map(|(place, _)| place)
+/// The places of a code whose op is of this sort.
+fn places_of(code: &[Op], wanted: fn(&Op) -> bool) -> Vec<usize> {
+    (0..code.len())
+        .filter(|&place| wanted(&code[place]))
         .collect()
+}
+
+/// The places of a code that are no recv, no clause and no `after`.
+fn plain_places(code: &[Op]) -> Vec<usize> {
+    places_of(code, |op| {
+        !matches!(op, Op::Recv(_) | Op::Clause(_) | Op::After(_))
+    })
+}
+
+fn clauses_of(code: &[Op]) -> Vec<usize> {
+    places_of(code, |op| matches!(op, Op::Clause(_)))
+}
+
+fn afters_of(code: &[Op]) -> Vec<usize> {
+    places_of(code, |op| matches!(op, Op::After(_)))
+}
+
+/// A place of one of the rows, each row that has one being as likely as the others.
+fn some_place(random: &mut Random, mut rows: Vec<Vec<usize>>) -> Option<usize> {
+    rows.retain(|places| !places.is_empty());
+    if rows.is_empty() {
+        return None;
+    }
+    let places = random.pick(&rows);
+    Some(*random.pick(places))
 }
 
 fn some_clause(random: &mut Random, target: usize) -> Op {
@@ -623,6 +678,9 @@ fn some_clause(random: &mut Random, target: usize) -> Op {
 /// The answer is its place.
 fn recv_at_the_end(random: &mut Random, code: &mut Vec<Op>) -> usize {
     let places = plain_places(code);
+    if places.is_empty() && code.len() == 32 {
+        return stray_clause(random, code);
+    }
     if places.is_empty() || code.len() < 32 && random.chance(40) {
         code.push(Op::Recv(random.between(1, 8)));
         return code.len() - 1;
@@ -669,32 +727,88 @@ fn stray_clause(random: &mut Random, code: &mut Vec<Op>) -> usize {
     0
 }
 
-/// An op or a clause whose target is a clause. The answer is its place.
-fn target_on_clause(random: &mut Random, code: &mut Vec<Op>) -> usize {
-    let is_clause = |op: &Op| matches!(op, Op::Clause(_));
-    let clauses: Vec<usize> = (0..code.len()).filter(|&p| is_clause(&code[p])).collect();
-    if clauses.is_empty() {
+/// An op, a clause or an `after` whose target is a clause or an `after`. The answer is its place.
+fn bad_target(random: &mut Random, code: &mut Vec<Op>) -> usize {
+    let (plain, clauses, afters) = (plain_places(code), clauses_of(code), afters_of(code));
+    let aim = some_place(random, vec![clauses.clone(), afters.clone()]);
+    let place = some_place(random, vec![plain, clauses, afters]);
+    let (Some(aim), Some(place)) = (aim, place) else {
         return stray_clause(random, code);
-    }
-    let aim = *random.pick(&clauses);
-    let place = *random.pick(&clauses);
-    if random.chance(40) {
-        if let Op::Clause(clause) = &mut code[place] {
-            clause.target = aim;
-            return place;
+    };
+    match &mut code[place] {
+        Op::Clause(clause) => clause.target = aim,
+        Op::After(target) => *target = aim,
+        op => {
+            *op = match random.below(3) {
+                0 => Op::Jump(aim),
+                1 => Op::Same(0, crate::node::Value::Int(0), aim),
+                _ => Op::Less(0, 1, aim),
+            }
         }
     }
-    let places = plain_places(code);
-    if places.is_empty() {
-        return stray_clause(random, code);
-    }
-    let place = *random.pick(&places);
-    code[place] = match random.below(3) {
-        0 => Op::Jump(aim),
-        1 => Op::Same(0, crate::node::Value::Int(0), aim),
-        _ => Op::Less(0, 1, aim),
-    };
     place
+}
+
+/// An `after` whose op before is no clause. The answer is its place.
+fn stray_after(random: &mut Random, code: &mut Vec<Op>) -> usize {
+    let follows_clause = |place: usize| matches!(code[..place].last(), Some(Op::Clause(_)));
+    let mut places = plain_places(code);
+    places.retain(|&place| !follows_clause(place));
+    let length = code.len();
+    if length < 32 && !follows_clause(length) && (places.is_empty() || random.chance(30)) {
+        code.push(Op::After(length + 1));
+        return length;
+    }
+    // Place 0 has no op before, whatever stands there.
+    let place = some_place(random, vec![places]).unwrap_or(0);
+    code[place] = Op::After(length);
+    place
+}
+
+/// An `after` behind an `after`, at which mostly no op aims. The answer is its place.
+fn second_after(random: &mut Random, code: &mut Vec<Op>) -> usize {
+    let length = code.len();
+    let mut afters = afters_of(code);
+    afters.retain(|&place| place + 1 < 32);
+    let Some(first) = some_place(random, vec![afters]) else {
+        return after_for_clause(random, code);
+    };
+    if first + 1 == length {
+        code.push(Op::After(length + 1));
+    } else {
+        code[first + 1] = Op::After(length);
+    }
+    if random.chance(80) {
+        for op in code.iter_mut() {
+            aim_at_0_instead(op, first + 1);
+        }
+    }
+    first + 1
+}
+
+/// A target at this place becomes 0, where no clause and no `after` of a good plan stands.
+fn aim_at_0_instead(op: &mut Op, place: usize) {
+    let target = match op {
+        Op::Clause(clause) => &mut clause.target,
+        Op::Jump(target) | Op::Same(_, _, target) | Op::Less(_, _, target) | Op::After(target) => {
+            target
+        }
+        _ => return,
+    };
+    if *target == place {
+        *target = 0;
+    }
+}
+
+/// An `after` in the place of a clause, so that a recv is without its clauses. The answer is the place
+/// of the recv.
+fn after_for_clause(random: &mut Random, code: &mut Vec<Op>) -> usize {
+    let Some(place) = some_place(random, vec![clauses_of(code)]) else {
+        return stray_after(random, code);
+    };
+    code[place] = Op::After(code.len());
+    let is_recv = |op: &Op| matches!(op, Op::Recv(_));
+    code[..place].iter().rposition(is_recv).unwrap_or(place)
 }
 
 // Texts at a limit, steps texts and single bytes.
@@ -741,7 +855,7 @@ pub fn long_steps(random: &mut Random) -> Vec<u8> {
         // Over 4,096 lines, one of them malformed: 15 is told.
         4 => {
             repeat(&mut text, b"run=1\n", random.between(4_096, 5_000));
-            let bad: &[&[u8]] = &[b"run=\n", b"\n", b"run=1", b"run=256\n"];
+            let bad: &[&[u8]] = &[b"run=\n", b"\n", b"run=1", b"run=256\n", b"timeout=256\n"];
             text.extend_from_slice(random.pick::<&[u8]>(bad));
         }
         // 61,440 bytes in 4,096 lines, and a little more.
@@ -773,63 +887,83 @@ fn repeat(text: &mut Vec<u8>, line: &[u8], times: usize) {
     }
 }
 
-/// A line that is no step.
+/// Lines that are no step.
+const BAD_STEP_LINES: [&[u8]; 66] = [
+    b"",
+    b"run",
+    b"run=",
+    b"run=1,2",
+    b"run=p1",
+    b"Run=1",
+    b" run=1",
+    b"run =1",
+    b"run=1 ",
+    b"run= 1",
+    b"run=256",
+    b"run=999",
+    b"run=-1",
+    b"run=-0",
+    b"run=+1",
+    b"run=01",
+    b"run=00",
+    b"run=1\r",
+    b"run=1\0",
+    b"run=\xb9",
+    b"run==1",
+    b"arrive",
+    b"arrive=",
+    b"arrive=1",
+    b"arrive=1,",
+    b"arrive=,1",
+    b"arrive=,",
+    b"arrive=1,2,3",
+    b"arrive=1, 2",
+    b"arrive=1;2",
+    b"arrive=256,1",
+    b"arrive=1,256",
+    b"arrive=-1,1",
+    b"arrive=1,-1",
+    b"arrive=01,1",
+    b"arrive=1,02",
+    b"arrive=1,-0",
+    b"arrive=i1,1",
+    b"arrival=1,2",
+    b"timeout",
+    b"timeout=",
+    b"timeout=1,1",
+    b"timeout=1,",
+    b"timeout=,1",
+    b"timeout=p1",
+    b"timeout=256",
+    b"timeout=-1",
+    b"timeout=-0",
+    b"timeout=+1",
+    b"timeout=01",
+    b"timeout=1 ",
+    b"timeout=1\r",
+    b"Timeout=1",
+    b"timeouts=1",
+    b"timeout =1",
+    b"time=1",
+    b"timeout=18446744073709551617",
+    b"after=1",
+    b"stop=1",
+    b"\r",
+    b"\0",
+    b"run=18446744073709551617",
+    b"arrive=1,4294967297",
+    b"run=1run=1",
+    b"run=0x1",
+    b"steps=1",
+];
+
 fn bad_step_line(random: &mut Random) -> Vec<u8> {
-    let fixed: &[&[u8]] = &[
-        b"",
-        b"run",
-        b"run=",
-        b"run=1,2",
-        b"run=p1",
-        b"Run=1",
-        b" run=1",
-        b"run =1",
-        b"run=1 ",
-        b"run= 1",
-        b"run=256",
-        b"run=999",
-        b"run=-1",
-        b"run=-0",
-        b"run=+1",
-        b"run=01",
-        b"run=00",
-        b"run=1\r",
-        b"run=1\0",
-        b"run=\xb9",
-        b"run==1",
-        b"arrive",
-        b"arrive=",
-        b"arrive=1",
-        b"arrive=1,",
-        b"arrive=,1",
-        b"arrive=,",
-        b"arrive=1,2,3",
-        b"arrive=1, 2",
-        b"arrive=1;2",
-        b"arrive=256,1",
-        b"arrive=1,256",
-        b"arrive=-1,1",
-        b"arrive=1,-1",
-        b"arrive=01,1",
-        b"arrive=1,02",
-        b"arrive=1,-0",
-        b"arrive=i1,1",
-        b"arrival=1,2",
-        b"stop=1",
-        b"\r",
-        b"\0",
-        b"run=18446744073709551617",
-        b"arrive=1,4294967297",
-        b"run=1run=1",
-        b"run=0x1",
-        b"steps=1",
-    ];
-    let mut line = random.pick(fixed).to_vec();
     if random.chance(5) {
-        line = b"run=".to_vec();
+        let mut line = random.pick(&["run=", "timeout="]).as_bytes().to_vec();
         line.extend(vec![b'1'; random.between(4, 500)]);
+        return line;
     }
-    line
+    random.pick(&BAD_STEP_LINES).to_vec()
 }
 
 /// A steps text with one or two malformed lines.

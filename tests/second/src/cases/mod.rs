@@ -7,7 +7,7 @@ pub mod schedules;
 
 use crate::random::Random;
 use plans::{Theme, Tie};
-use schedules::Goal;
+use schedules::{Goal, Obstacle};
 
 /// Case number k of a seed: plan text and steps text, the same on every call.
 pub fn case(seed: u64, k: u64) -> (Vec<u8>, Vec<u8>) {
@@ -41,6 +41,8 @@ fn theme_for(random: &mut Random, goal: Goal) -> Theme {
             _ => Theme::Signs,
         },
         Goal::NotUnborn if random.chance(60) => Theme::Spawns,
+        Goal::NoTimeout(Obstacle::Closing) if random.chance(60) => Theme::Links,
+        Goal::NoTimeout(_) if random.chance(80) => Theme::Silence,
         _ => plans::any_theme(random),
     }
 }

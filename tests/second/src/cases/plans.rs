@@ -18,6 +18,8 @@ pub enum Theme {
     Arithmetic,
     /// Signs that watch rows, which send a sign up to as many signals as a pair holds and end.
     Signs,
+    /// Processes that wait for some kinds of messages only and give up at times.
+    Silence,
     /// A process that ties itself to another one and takes the tie back; the other one sends a row
     /// of messages and ends.
     Race(Tie),
@@ -25,7 +27,7 @@ pub enum Theme {
     FullRace(Tie),
 }
 
-const THEMES: [(Theme, usize); 13] = [
+const THEMES: [(Theme, usize); 14] = [
     (Theme::Mixed, 2),
     (Theme::Flood, 2),
     (Theme::Links, 2),
@@ -35,6 +37,7 @@ const THEMES: [(Theme, usize); 13] = [
     (Theme::Spawns, 2),
     (Theme::Arithmetic, 3),
     (Theme::Signs, 5),
+    (Theme::Silence, 4),
     (Theme::Race(Tie::Link), 2),
     (Theme::Race(Tie::Watch), 1),
     (Theme::FullRace(Tie::Link), 3),
@@ -113,13 +116,15 @@ impl Draft {
 
 /// A target that is chosen when the whole code is known.
 const ANYWHERE: usize = usize::MAX;
+/// Place N, which is known by then.
+const END: usize = usize::MAX - 1;
 /// The largest N.
 const LONGEST: usize = 32;
 
 /// A valid plan.
 pub fn draft(random: &mut Random, theme: Theme) -> Draft {
     let count = match theme {
-        Theme::Race(_) | Theme::FullRace(_) | Theme::Signs => 3,
+        Theme::Race(_) | Theme::FullRace(_) | Theme::Signs | Theme::Silence => 3,
         Theme::Receive => random.between(2, 3),
         _ => random.weighted(&[0, 2, 4, 4, 3, 2, 1, 1, 1]),
     };
@@ -129,7 +134,7 @@ pub fn draft(random: &mut Random, theme: Theme) -> Draft {
         .collect();
     let starts = match theme {
         Theme::Race(_) | Theme::FullRace(_) => race_starts(random, &population),
-        Theme::Signs => sign_starts(random, &population),
+        Theme::Signs | Theme::Silence => sign_starts(random, &population),
         _ => starts(random, theme, count, &population),
     };
     Draft { behaviours, starts }
@@ -148,7 +153,8 @@ fn race_starts(random: &mut Random, population: &[u8]) -> Vec<(u8, u8)> {
     starts
 }
 
-/// The first process of the population is a sign, the second a row, the others do any behaviour.
+/// The first process of the population is a sign or one that waits, the second a row or a sender, the
+/// others do any behaviour.
 fn sign_starts(random: &mut Random, population: &[u8]) -> Vec<(u8, u8)> {
     let mut starts = vec![(population[0], 1), (population[1], 2)];
     for &process in &population[2..] {
@@ -234,6 +240,7 @@ enum Part {
     Crash,
     SendRow,
     Select,
+    Wait,
 }
 
 // How likely each part is under a theme.
@@ -259,6 +266,7 @@ const MIXED_PARTS: &[(Part, usize)] = &[
     (Part::Crash, 2),
     (Part::SendRow, 4),
     (Part::Select, 4),
+    (Part::Wait, 4),
 ];
 
 const FLOOD_PARTS: &[(Part, usize)] = &[
@@ -282,6 +290,7 @@ const FLOOD_PARTS: &[(Part, usize)] = &[
     (Part::Crash, 1),
     (Part::SendRow, 2),
     (Part::Select, 1),
+    (Part::Wait, 1),
 ];
 
 const LINKS_PARTS: &[(Part, usize)] = &[
@@ -303,6 +312,7 @@ const LINKS_PARTS: &[(Part, usize)] = &[
     (Part::Crash, 4),
     (Part::SendRow, 1),
     (Part::Select, 1),
+    (Part::Wait, 2),
 ];
 
 const MONITORS_PARTS: &[(Part, usize)] = &[
@@ -322,6 +332,7 @@ const MONITORS_PARTS: &[(Part, usize)] = &[
     (Part::Crash, 3),
     (Part::SendRow, 1),
     (Part::Select, 3),
+    (Part::Wait, 3),
 ];
 
 const EXITS_PARTS: &[(Part, usize)] = &[
@@ -344,6 +355,7 @@ const EXITS_PARTS: &[(Part, usize)] = &[
     (Part::Crash, 2),
     (Part::SendRow, 2),
     (Part::Select, 4),
+    (Part::Wait, 2),
 ];
 
 const RECEIVE_PARTS: &[(Part, usize)] = &[
@@ -357,6 +369,7 @@ const RECEIVE_PARTS: &[(Part, usize)] = &[
     (Part::Serve, 4),
     (Part::SendRow, 10),
     (Part::Select, 10),
+    (Part::Wait, 6),
 ];
 
 const SPAWNS_PARTS: &[(Part, usize)] = &[
@@ -379,6 +392,7 @@ const SPAWNS_PARTS: &[(Part, usize)] = &[
     (Part::Crash, 2),
     (Part::SendRow, 1),
     (Part::Select, 1),
+    (Part::Wait, 2),
 ];
 
 const ARITHMETIC_PARTS: &[(Part, usize)] = &[
@@ -393,6 +407,7 @@ const ARITHMETIC_PARTS: &[(Part, usize)] = &[
     (Part::Plain, 6),
     (Part::Stop, 1),
     (Part::Serve, 3),
+    (Part::Wait, 1),
 ];
 
 fn parts_of(theme: Theme) -> &'static [(Part, usize)] {
@@ -402,7 +417,7 @@ fn parts_of(theme: Theme) -> &'static [(Part, usize)] {
         Theme::Links => LINKS_PARTS,
         Theme::Monitors | Theme::Signs => MONITORS_PARTS,
         Theme::Exits | Theme::Race(_) | Theme::FullRace(_) => EXITS_PARTS,
-        Theme::Receive => RECEIVE_PARTS,
+        Theme::Receive | Theme::Silence => RECEIVE_PARTS,
         Theme::Spawns => SPAWNS_PARTS,
         Theme::Arithmetic => ARITHMETIC_PARTS,
     }
@@ -414,6 +429,14 @@ struct Writer<'a> {
     population: &'a [u8],
     behaviours: usize,
     ops: Vec<Op>,
+}
+
+/// A recv in the making: its place, whether it gets an `after`, and the place behind it all.
+#[derive(Clone, Copy)]
+struct Recv {
+    start: usize,
+    after: bool,
+    behind: usize,
 }
 
 /// The behaviour at this index of a plan.
@@ -433,6 +456,8 @@ fn code(
     match (theme, index) {
         (Theme::Signs, 0) => writer.sign(),
         (Theme::Signs, 1) => writer.row(),
+        (Theme::Silence, 0) => writer.waiter(),
+        (Theme::Silence, 1) => writer.sender(),
         (Theme::Race(tie), 0) => writer.watcher(tie),
         (Theme::Race(_), 1) => writer.crasher(),
         (Theme::FullRace(tie), 0) => writer.late_watcher(tie),
@@ -499,6 +524,25 @@ impl Writer<'_> {
         }
     }
 
+    /// Waits once or twice, then mostly again. The last recv may be without an `after`.
+    fn waiter(&mut self) {
+        if self.random.chance(60) {
+            self.push(Op::Trap(true));
+        }
+        if self.random.chance(30) {
+            self.monitors();
+        }
+        let start = self.ops.len();
+        if self.random.chance(60) {
+            self.wait(100);
+            self.delay(2);
+        }
+        self.wait(75);
+        if self.random.chance(60) {
+            self.push(Op::Jump(start));
+        }
+    }
+
     /// Watches a row and lets it go on by a message, at times watches another process, then takes
     /// what it hears.
     fn sign(&mut self) {
@@ -549,14 +593,14 @@ impl Writer<'_> {
             }
             _ => Pattern::Down,
         };
-        let target = self.ops.len() + 2;
-        self.push(Op::Recv(1));
+        let recv = self.recv(1, 20);
         self.push(Op::Clause(Clause {
             pattern,
             r: 0,
             s: 3,
-            target,
+            target: recv.behind,
         }));
+        self.finish_recv(recv);
     }
 
     /// Sends the first sign up to as many signals as a pair holds, often only after it has heard of
@@ -630,18 +674,17 @@ impl Writer<'_> {
             self.push(Op::Set(1, Value::Pid(self.population[1])));
             self.push(tie.tied(1));
         }
-        let after = self.ops.len() + 2;
-        self.push(Op::Recv(1));
+        let recv = self.recv(1, 0);
         self.push(Op::Clause(Clause {
             pattern: Pattern::Pid,
             r: 1,
             s: 1,
-            target: after,
+            target: recv.behind,
         }));
         if self.random.chance(70) {
             self.push(tie.untied(1));
         }
-        self.push(Op::Recv(1));
+        let recv = self.recv(1, 50);
         let pattern =
             *self
                 .random
@@ -652,6 +695,7 @@ impl Writer<'_> {
             s: 2,
             target: ANYWHERE,
         }));
+        self.finish_recv(recv);
     }
 
     /// Links the watcher if that is the tie, fills its mailbox, asks it to take the tie back and
@@ -720,6 +764,7 @@ impl Writer<'_> {
             Part::Crash => self.crash(),
             Part::SendRow => self.send_row(),
             Part::Select => self.select(),
+            Part::Wait => self.wait(100),
         }
     }
 
@@ -920,7 +965,6 @@ impl Writer<'_> {
 
     /// A recv with clauses of different kinds in a random order.
     fn select(&mut self) {
-        let start = self.ops.len();
         let mut patterns = vec![
             Pattern::Int,
             Pattern::Atom,
@@ -930,11 +974,10 @@ impl Writer<'_> {
             Pattern::Exact(self.value()),
         ];
         let count = self.random.between(2, 6);
-        self.push(Op::Recv(count));
+        let recv = self.recv(count, 25);
         for _ in 0..count {
             let pattern = patterns.swap_remove(self.random.below(patterns.len()));
-            let after = start + count + 1;
-            let target = if self.random.chance(50) { start } else { after };
+            let target = *self.random.pick(&[recv.start, recv.behind]);
             let (r, s) = (self.register(), self.register());
             self.push(Op::Clause(Clause {
                 pattern,
@@ -943,6 +986,7 @@ impl Writer<'_> {
                 target,
             }));
         }
+        self.finish_recv(recv);
     }
 
     /// An end some steps after a link.
@@ -960,13 +1004,17 @@ impl Writer<'_> {
     fn serve(&mut self) {
         let start = self.ops.len();
         let count = self.random.between(1, 4);
-        let after = start + count + 1;
-        self.push(Op::Recv(count));
+        let recv = self.recv(count, 25);
         for _ in 0..count {
-            let target = if self.random.chance(60) { start } else { after };
+            let target = if self.random.chance(60) {
+                start
+            } else {
+                recv.behind
+            };
             let clause = self.clause(target);
             self.push(Op::Clause(clause));
         }
+        self.finish_recv(recv);
         let (r, s) = (self.register(), self.register());
         if self.random.chance(50) {
             let process = self.process();
@@ -1022,17 +1070,68 @@ impl Writer<'_> {
 
     fn receive(&mut self) {
         let count = self.random.weighted(&[0, 6, 5, 3, 1, 1, 1, 1, 1]);
-        let after = self.ops.len() + count + 1;
-        self.push(Op::Recv(count));
+        let recv = self.recv(count, 25);
         for _ in 0..count {
             let target = if self.random.chance(55) {
-                after
+                recv.behind
             } else {
                 ANYWHERE
             };
             let clause = self.clause(target);
             self.push(Op::Clause(clause));
         }
+        self.finish_recv(recv);
+    }
+
+    /// A recv of `count` clauses, which in `percent` of 100 calls gets an `after`.
+    fn recv(&mut self, count: usize, percent: usize) -> Recv {
+        let start = self.ops.len();
+        let after = self.random.chance(percent);
+        self.push(Op::Recv(count));
+        Recv {
+            start,
+            after,
+            behind: start + 1 + count + usize::from(after),
+        }
+    }
+
+    /// The `after` of a recv whose clauses are written, if it gets one: back to its recv, to place N,
+    /// to the op behind it, or anywhere.
+    fn finish_recv(&mut self, recv: Recv) {
+        if recv.after {
+            let target = *self
+                .random
+                .pick(&[recv.start, END, recv.behind, recv.behind, ANYWHERE]);
+            self.push(Op::After(target));
+        }
+    }
+
+    /// A recv whose clauses, eight at times, are of one kind or two, with an `after` in `percent` of
+    /// 100 calls.
+    fn wait(&mut self, percent: usize) {
+        let kinds = [
+            Pattern::Int,
+            Pattern::Atom,
+            Pattern::Pid,
+            Pattern::Note,
+            Pattern::Down,
+            Pattern::Exact(self.value()),
+        ];
+        let wanted = [*self.random.pick(&kinds), *self.random.pick(&kinds)];
+        let count = *self.random.pick(&[1, 1, 1, 2, 2, 3, 8]);
+        let recv = self.recv(count, percent);
+        for _ in 0..count {
+            let target = *self.random.pick(&[recv.start, recv.behind]);
+            let (r, s) = (self.register(), self.register());
+            let pattern = *self.random.pick(&wanted);
+            self.push(Op::Clause(Clause {
+                pattern,
+                r,
+                s,
+                target,
+            }));
+        }
+        self.finish_recv(recv);
     }
 
     fn clause(&mut self, target: usize) -> Clause {
@@ -1116,12 +1215,15 @@ impl Writer<'_> {
         } = self;
         cut(&mut ops);
         let length = ops.len();
-        let is_clause = |place: usize| matches!(ops.get(place), Some(Op::Clause(_)));
-        let places: Vec<usize> = (0..=length).filter(|&place| !is_clause(place)).collect();
+        let barred = |place: usize| matches!(ops.get(place), Some(Op::Clause(_) | Op::After(_)));
+        let places: Vec<usize> = (0..=length).filter(|&place| !barred(place)).collect();
         for op in &mut ops {
             match op {
                 Op::Clause(clause) => set_target(random, &mut clause.target, &places),
-                Op::Jump(target) | Op::Same(_, _, target) | Op::Less(_, _, target) => {
+                Op::Jump(target)
+                | Op::Same(_, _, target)
+                | Op::Less(_, _, target)
+                | Op::After(target) => {
                     set_target(random, target, &places);
                 }
                 _ => {}
@@ -1131,13 +1233,17 @@ impl Writer<'_> {
     }
 }
 
+/// The places are those that a target can be, of which N is the last.
 fn set_target(random: &mut Random, target: &mut usize, places: &[usize]) {
+    if *target == END {
+        *target = places[places.len() - 1];
+    }
     if !places.contains(target) {
         *target = *random.pick(places);
     }
 }
 
-/// Leaves at most 32 ops, and at least one.
+/// Leaves at most 32 ops, and at least one. A recv may lose its `after`.
 fn cut(ops: &mut Vec<Op>) {
     if ops.len() <= LONGEST {
         return;

@@ -19,9 +19,21 @@ pub enum Goal {
     NoFit,
     PairFull,
     NotUnborn,
+    NoTimeout(Obstacle),
 }
 
-const GOALS: [(Goal, usize); 9] = [
+/// What stands against a timeout of a process that is not unborn.
+#[derive(Clone, Copy, Debug, PartialEq, Eq)]
+pub enum Obstacle {
+    Closing,
+    Gone,
+    EndOfCode,
+    OtherOp,
+    NoAfter,
+    Message,
+}
+
+const GOALS: [(Goal, usize); 15] = [
     (Goal::Whole, 31),
     (Goal::BadNumber, 5),
     (Goal::OwnerUnborn, 5),
@@ -31,6 +43,12 @@ const GOALS: [(Goal, usize); 9] = [
     (Goal::NoFit, 7),
     (Goal::PairFull, 21),
     (Goal::NotUnborn, 8),
+    (Goal::NoTimeout(Obstacle::Closing), 3),
+    (Goal::NoTimeout(Obstacle::Gone), 1),
+    (Goal::NoTimeout(Obstacle::EndOfCode), 3),
+    (Goal::NoTimeout(Obstacle::OtherOp), 1),
+    (Goal::NoTimeout(Obstacle::NoAfter), 3),
+    (Goal::NoTimeout(Obstacle::Message), 5),
 ];
 
 pub fn any_goal(random: &mut Random) -> Goal {
@@ -51,6 +69,7 @@ impl Goal {
             Goal::NoFit => step::NO_FIT,
             Goal::PairFull => step::PAIR_FULL,
             Goal::NotUnborn => step::NOT_UNBORN,
+            Goal::NoTimeout(_) => step::NO_TIMEOUT,
         }
     }
 
@@ -60,6 +79,15 @@ impl Goal {
             Goal::MailboxFull => 60,
             Goal::PairFull => 12,
             _ => *random.pick(&[25, 45, 65]),
+        }
+    }
+
+    /// How many steps of 100 are timeouts, where some process waits.
+    fn timeouts(self, random: &mut Random) -> usize {
+        match self {
+            Goal::MailboxFull | Goal::PairFull => *random.pick(&[0, 3]),
+            Goal::NoTimeout(_) => 15,
+            _ => *random.pick(&[0, 5, 15, 40]),
         }
     }
 }
@@ -93,7 +121,7 @@ pub fn schedule(random: &mut Random, draft: &Draft, goal: Goal) -> Vec<Step> {
     }
     if schedule.is_empty() && length > 0 {
         // Nothing is acceptable at the start.
-        schedule.push(likely_step(random, &node, 0, goal, None).unwrap_or(Step::Run(1)));
+        schedule.push(some_run(random, &node, None).unwrap_or(Step::Run(1)));
     }
     schedule.truncate(LINE_LIMIT);
     schedule
@@ -118,7 +146,9 @@ pub fn accepted_steps(random: &mut Random, node: &mut Node, length: usize) -> Ve
 fn length(random: &mut Random, goal: Goal) -> usize {
     match goal {
         Goal::MailboxFull => return random.between(100, 400),
-        Goal::PairFull | Goal::NotUnborn | Goal::NoFit => return random.between(20, 150),
+        Goal::PairFull | Goal::NotUnborn | Goal::NoFit | Goal::NoTimeout(_) => {
+            return random.between(20, 150);
+        }
         _ => {}
     }
     match random.below(100) {
@@ -142,14 +172,13 @@ fn extend(
     length: usize,
     schedule: &mut Vec<Step>,
 ) -> Option<Step> {
-    let arrivals = goal.arrivals(random);
+    let likely = Likely::new(random, node, goal);
     // A goal met at once would leave all schedules short.
     let earliest = random.below(length / 2 + 1);
-    let quiet = quiet_process(random, node, goal);
     let mut refused = 0;
     let mut passed_over = None;
     while schedule.len() < length && refused < PATIENCE {
-        let Some(step) = likely_step(random, node, arrivals, goal, quiet) else {
+        let Some(step) = likely.step(random, node) else {
             break;
         };
         match step::take(node, step) {
@@ -186,6 +215,7 @@ fn is_common(random: &mut Random, node: &Node, step: Step, number: u8) -> bool {
             number == step::MAILBOX_FULL && matches!(first, Some(Signal::Msg(_)))
         }
         Step::Run(process) => is_common_run(node, process),
+        Step::Timeout(_) => false,
     };
     common && random.chance(92)
 }
@@ -218,20 +248,81 @@ fn quiet_process(random: &mut Random, node: &Node, goal: Goal) -> Option<u8> {
     Some(*random.pick(&live))
 }
 
-/// A step that is not refused by 20 to 23, if there is one.
-fn likely_step(
-    random: &mut Random,
-    node: &Node,
-    arrivals: usize,
+/// How the steps of one schedule are drawn.
+struct Likely {
     goal: Goal,
+    /// How many steps of 100 are of each kind, where there is one; the others are runs.
+    timeouts: usize,
+    arrivals: usize,
+    /// A process that seldom runs.
     quiet: Option<u8>,
-) -> Option<Step> {
-    let arrival = if random.chance(arrivals) {
-        some_arrival(random, node, goal)
-    } else {
-        None
+}
+
+impl Likely {
+    fn new(random: &mut Random, node: &Node, goal: Goal) -> Likely {
+        Likely {
+            goal,
+            timeouts: goal.timeouts(random),
+            arrivals: goal.arrivals(random),
+            quiet: quiet_process(random, node, goal),
+        }
+    }
+
+    /// A step that is not refused by 20 to 23, if there is one.
+    fn step(&self, random: &mut Random, node: &Node) -> Option<Step> {
+        let mut step = None;
+        if random.chance(self.timeouts) {
+            step = some_timeout(random, node, self.goal);
+        }
+        if step.is_none() && random.chance(self.arrivals) {
+            step = some_arrival(random, node, self.goal);
+        }
+        step.or_else(|| some_run(random, node, self.quiet))
+    }
+}
+
+/// A timeout of a process at a recv with `after`. Where the goal is 28 it is half the time one that
+/// meets the goal's obstacle.
+fn some_timeout(random: &mut Random, node: &Node, goal: Goal) -> Option<Step> {
+    match goal {
+        Goal::NoTimeout(wanted) if random.chance(50) => {
+            return refused_timeout(random, node, wanted);
+        }
+        _ => {}
+    }
+    let waits = |process: u8| {
+        let awaited = step::awaited(node, process);
+        awaited.is_some_and(|awaited| awaited.after.is_some())
     };
-    arrival.or_else(|| some_run(random, node, quiet))
+    let waiting: Vec<u8> = (1..=PROCESSES).filter(|&process| waits(process)).collect();
+    (!waiting.is_empty()).then(|| Step::Timeout(*random.pick(&waiting)))
+}
+
+fn obstacle(node: &Node, process: u8) -> Option<Obstacle> {
+    match node.stage(process) {
+        Stage::Unborn => return None,
+        Stage::Closing(_) => return Some(Obstacle::Closing),
+        Stage::Gone => return Some(Obstacle::Gone),
+        Stage::Live(_) => {}
+    }
+    let Some(awaited) = step::awaited(node, process) else {
+        return Some(match node.current_op(process) {
+            None => Obstacle::EndOfCode,
+            Some(_) => Obstacle::OtherOp,
+        });
+    };
+    if awaited.after.is_none() {
+        return Some(Obstacle::NoAfter);
+    }
+    awaited.fit.map(|_| Obstacle::Message)
+}
+
+/// A timeout that the node refuses with 28 because of this obstacle, if there is one.
+fn refused_timeout(random: &mut Random, node: &Node, wanted: Obstacle) -> Option<Step> {
+    let stopped: Vec<u8> = (1..=PROCESSES)
+        .filter(|&process| obstacle(node, process) == Some(wanted))
+        .collect();
+    (!stopped.is_empty()).then(|| Step::Timeout(*random.pick(&stopped)))
 }
 
 /// An arrival at a process that is not unborn, mostly at a live one. For a full pair ended ones are
@@ -281,14 +372,15 @@ pub fn blind_step(random: &mut Random) -> Step {
         _ => random.between(1, 16) as u8,
     };
     let (to, from) = (number(), number());
-    if random.chance(50) {
-        Step::Run(to)
-    } else {
-        Step::Arrive { to, from }
+    match random.below(5) {
+        0..=1 => Step::Run(to),
+        2..=3 => Step::Arrive { to, from },
+        _ => Step::Timeout(to),
     }
 }
 
-/// A step that the node refuses with the goal's number, if it is one of 20 to 23 and there is one.
+/// A step that the node refuses with the goal's number, if it is one of 20 to 23 or 28 and there is
+/// one.
 fn step_for(random: &mut Random, node: &Node, goal: Goal) -> Option<Step> {
     match goal {
         Goal::BadNumber => Some(step_with_bad_number(random)),
@@ -305,6 +397,7 @@ fn step_for(random: &mut Random, node: &Node, goal: Goal) -> Option<Step> {
                 .is_empty()
                 .then_some(Step::Arrive { to, from })
         }
+        Goal::NoTimeout(wanted) => refused_timeout(random, node, wanted),
         _ => None,
     }
 }
@@ -324,7 +417,7 @@ fn step_with_bad_number(random: &mut Random) -> Step {
         _ => random.between(17, 255) as u8,
     };
     let good = random.between(1, 16) as u8;
-    match random.below(4) {
+    match random.below(5) {
         0 => Step::Run(bad),
         1 => Step::Arrive {
             to: bad,
@@ -334,7 +427,8 @@ fn step_with_bad_number(random: &mut Random) -> Step {
             to: good,
             from: bad,
         },
-        _ => Step::Arrive { to: bad, from: bad },
+        3 => Step::Arrive { to: bad, from: bad },
+        _ => Step::Timeout(bad),
     }
 }
 
@@ -350,12 +444,12 @@ fn step_of_unborn(random: &mut Random, node: &Node) -> Option<Step> {
         return Some(Step::Arrive { to, from });
     }
     let owner = some_process(random, node, |stage| *stage == Stage::Unborn)?;
-    Some(if random.chance(50) {
-        Step::Run(owner)
-    } else {
-        Step::Arrive {
+    Some(match random.below(5) {
+        0..=1 => Step::Run(owner),
+        2..=3 => Step::Arrive {
             to: owner,
             from: random.between(1, 16) as u8,
-        }
+        },
+        _ => Step::Timeout(owner),
     })
 }

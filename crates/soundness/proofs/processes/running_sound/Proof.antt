@@ -37,16 +37,19 @@ returns-3 c =
       le-ltb _ _ (c .before .if3 .taken),
     )
 
+is-part-requires : tie.Need-is-part-requires
+is-part-requires c κs = search needs
+
 returns-4 : tie.Need-returns-4
 unfolding runningTold
 returns-4 c =
-    let d = c .before .before .before in
+    let d = c .before .before .before .before in
     rw (
       passed (d .before .before .before .within .ensures) (d .before .before .if1 .left),
       passed (d .before .registers-sound .ensures) (d .if2 .left),
-      ← c .before .before .index .ensures,
-      lt-ltb _
-          _ (c .if3 .left),
+      ← c .before .before .before .index .ensures,
+      lt-ltb _ _ (c .before .if3 .left),
+      ← c .is-part .ensures,
     )
 
 pub running-sound-spec : {M : Type 1} → statement M
@@ -60,4 +63,5 @@ running-sound-spec =
     index-requires
     array-read-len
     returns-3
+    is-part-requires
     returns-4)

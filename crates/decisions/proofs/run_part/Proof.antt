@@ -1,7 +1,7 @@
--- `run_clause`: the place rises by 1. Assumes nothing.
+-- `run_part`: the place rises by 1. Assumes nothing.
 use borrow.Author.Needs.{needs}
-use Rattle.decisions.proofs.run_clause.Statement.{statement}
-use Rattle.decisions.proofs.run_clause.Tie as tie
+use Rattle.decisions.proofs.run_part.Statement.{statement}
+use Rattle.decisions.proofs.run_part.Tie as tie
 
 advanced-requires : tie.Need-advanced-requires
 advanced-requires c κs = search needs
@@ -15,5 +15,5 @@ returns c =
     let its-advanced = c .before .advanced in
     rw (its-becomes .ensures, its-advanced .ensures)
 
-pub run-clause-spec : {M : Type 1} → statement M
-run-clause-spec = tie.close (tie.spec advanced-requires becomes-requires returns)
+pub run-part-spec : {M : Type 1} → statement M
+run-part-spec = tie.close (tie.spec advanced-requires becomes-requires returns)
