@@ -8,7 +8,7 @@ use Prim.Native.Nat.{ℕ, zero, suc, _+_, _-_, _≤_, _<_, min}
 use native.Mathlib.Decide.{ℕ-discrete}
 use native.Mathlib.Omega.{arith}
 use borrow.Author.Tests.{ltb-true, ltb-false, lt-leb, le-leb, lt-ltb, le-ltb}
-use lib.Dec.{eqb, ltb}
+use lib.Dec.{ltb}
 use lib.IntN.{ℤ}
 use lib.ListN.{length, getD, replicate, length-set, length-replicate, List·getD-eq-default}
 use lib.Seq.{getD-set-same}
@@ -21,7 +21,7 @@ use Rattle.node.specs.declared.Signal.the-variants.{Exit, Down}
 use Rattle.node.specs.declared.Stage.{Stage}
 use Rattle.node.specs.Mailboxes.{noMessage}
 use Rattle.node.specs.Nodes.{noOp}
-use Rattle.node.specs.Ops.{opCount, recvOp}
+use Rattle.node.specs.Ops.{opCount}
 use Rattle.node.specs.Processes.{register, unlinked, unwatched, ended}
 use Rattle.node.specs.declared.Value.{Value}
 use Rattle.node.specs.declared.Value.the-variants.{Int, Atom, Pid}
@@ -31,8 +31,7 @@ use Rattle.rules.specs.Arrive.{joinsWith, arrivesIn, arrives}
 use Rattle.rules.specs.Effects.{State, Effect, becomes, ends, sends}
 use Rattle.rules.specs.Receive.{receives}
 use Rattle.rules.specs.Run.{sendsTo, toOther, onIntegers, stops, opTable, runsOp, runsLive, runsIn, runs, closesTo}
-use Rattle.rules.specs.Timeout.{isLive}
-use Rattle.decisions.specs.Answers.{unread, tells, refusing, becoming, decisionOf, says, ranOp, codeAt, ran, arrived, awaits, integersOf, namedBy}
+use Rattle.decisions.specs.Answers.{unread, tells, refusing, becoming, decisionOf, says, ranOp, codeAt, ran, arrived, integersOf, namedBy}
 use Rattle.decisions.specs.declared.Pair.the-variants.{Not, Both}
 
 -- ---- two values, where both are integers, or not
@@ -114,11 +113,6 @@ module _ (i : ProcessNumber) (p : Process) (len : ℕ) (o : Op) where
   pub live-op : p .place < len → ranOp i p o ≡ says p 0 (runsLive (ops p len o) (i .0))
   unfolding ranOp runsLive runsOp receives
   live-op h = rw (ops-length p len o, lt-leb len (p .place) h, ops-op p len o h)
-
--- a process at a recv, by its stage
-pub awaits-at : (p : Process) (len : ℕ) (o : Op) {s : Stage} → p .stage ≡ s → (isLive s && ltb (p .place) len && eqb (o .number) recvOp) ≡ awaits p len o
-unfolding awaits
-awaits-at p len o e = sym (ap (λ (s : Stage). isLive s && ltb (p .place) len && eqb (o .number) recvOp) e)
 
 -- ---- a process whose mailbox holds k messages
 

@@ -38,8 +38,9 @@ use Rattle.rules.specs.Run.{setsRegister, jumpsIf, integerIn, onIntegers, setsS
 use Rattle.rules.specs.Run.{runsIn, runs}
 use Rattle.rules.specs.Steps.{isUnborn}
 use Rattle.rules.specs.Timeout.{atAfter, isLive, expiresLive, expiresIn, expires}
+use Rattle.receive.specs.Waiting.{awaits}
 use Rattle.decisions.proofs.Laws.{ops-length, ops-op}
-use Rattle.decisions.specs.Answers.{stateOf, unread, refusing, searching, decisionOf, codeAt, ran, arrived, awaits, expired, answerOf}
+use Rattle.decisions.specs.Answers.{stateOf, unread, refusing, searching, decisionOf, codeAt, ran, arrived, expired, answerOf}
 use Rattle.decisions.specs.declared.Decision.{Decision}
 
 -- the code has len ops, and o stands at place t where t is not its end

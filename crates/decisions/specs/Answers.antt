@@ -12,19 +12,18 @@
 --   codeAt len t o         a code of len ops, with o at place t
 --   ran i p len o          what a run of process i, whose code has len ops and which is at op o, says
 --   arrived i j p k x      what the arrival at process i of signal x from j says
---   awaits p len o         a process whose code has len ops and which is at op o is live at a recv
---   expired i p len o      what a timeout of it says: at a recv that its mailbox is to be searched, as a run does
+--   expired i p len o      what a timeout of such a process says: live at a recv, that its mailbox is to be searched, as a run does
 --   mailOf, sentOf, bornOf what becomes of the mailbox by a record, what it sends, and whom it brings to life
 --   effectOf i e           the effect that a record tells of process i
 --   answerOf late code i st e   the rules' answer that record e tells of process i, in state st and with its code: of a timeout if `late`
 --   namedBy v              the process that value v names; 0 where it names none
 --   sumOf z                the sum of two integers, where it is one too
 --   integersOf a b         two integers, where both are there
-use mathlib.Core.Bool.{Bool, true, false, cond, _&&_}
+use mathlib.Core.Bool.{Bool, true, false, cond}
 use mathlib.Core.List.{List, []}
 use mathlib.Core.Option.{Option, none, some, Option·getD}
 use Prim.Native.Nat.{ℕ}
-use lib.Dec.{eqb, ltb}
+use lib.Dec.{eqb}
 use lib.IntN.{ℤ}
 use lib.ListN.{getD, set, replicate}
 use Rattle.node.specs.declared.Message.{Message}
@@ -37,7 +36,6 @@ use Rattle.node.specs.declared.Value.{Value}
 use Rattle.node.specs.declared.Value.the-variants.{Int}
 use Rattle.node.specs.Mailboxes.{noMessage}
 use Rattle.node.specs.Nodes.{noOp, noProcess}
-use Rattle.node.specs.Ops.{recvOp}
 use Rattle.node.specs.Processes.{fresh}
 use Rattle.node.specs.Values.{intZero, pid, fitsInt}
 use Rattle.rules.specs.Answers.{Answer, refused, done, noFit, noTimeout}
@@ -45,7 +43,8 @@ use Rattle.rules.specs.Arrive.{arrives}
 use Rattle.rules.specs.Effects.{State, MailChange, unchanged, joining, leaving, Sending, Birth, Effect}
 use Rattle.rules.specs.Receive.{receives}
 use Rattle.rules.specs.Run.{processIn, runs, runsOp}
-use Rattle.rules.specs.Timeout.{isLive, expiresLive}
+use Rattle.rules.specs.Timeout.{expiresLive}
+use Rattle.receive.specs.Waiting.{awaits}
 use Rattle.decisions.specs.declared.Pair.{Pair}
 use Rattle.decisions.specs.declared.Pair.the-variants.{Not, Both}
 use Rattle.decisions.specs.declared.Sum.{Sum}
@@ -125,9 +124,6 @@ ran i p len o = says p 0 (λ st. runs (codeAt len (p .place) o) (i .0) st)
 
 unfoldable pub arrived : ProcessNumber → ProcessNumber → Process → ℕ → Signal → Decision
 arrived i j p k x = says p k (λ st. arrives (i .0) (j .0) st x)
-
-unfoldable pub awaits : Process → ℕ → Op → Bool
-awaits p len o = isLive (p .stage) && ltb (p .place) len && eqb (o .number) recvOp
 
 unfoldable pub expired : ProcessNumber → Process → ℕ → Op → Decision
 expired i p len o = cond (awaits p len o) (ran i p len o) (refusing p noTimeout)

@@ -3,18 +3,15 @@
 --                               and has k messages; its row has c signals, of which x is the oldest
 --   pairRefusal refusal c       the refusal of a decision that sends, where c signals are in flight to the receiver: its own, or 26
 --   birthRefusal refusal old    of one that spawns, where the process of that number is old: its own, or 27
---   timeoutRefusal refusal t n len o   of a timeout at a recv with n clauses at place t of a code of len ops, where the search told `refusal` and
---                               o is read behind the clauses: 28 unless no message fits and o is an `after` within the code
-use mathlib.Core.Bool.{cond, _&&_}
-use Prim.Native.Nat.{ℕ, _+_}
-use lib.Dec.{eqb, leb, ltb}
+use mathlib.Core.Bool.{cond}
+use Prim.Native.Nat.{ℕ}
+use lib.Dec.{eqb, leb}
 use Rattle.decisions.specs.declared.Decision.{Decision}
 use Rattle.decisions.specs.Answers.{refusing, ran, arrived, expired}
 use Rattle.node.specs.declared.Op.{Op}
-use Rattle.node.specs.Ops.{afterOp}
 use Rattle.node.specs.declared.Process.{Process}
 use Rattle.node.specs.declared.Signal.{Signal}
-use Rattle.rules.specs.Answers.{badNumber, ownerUnborn, noneInFlight, noFit, pairFull, notUnborn, noTimeout}
+use Rattle.rules.specs.Answers.{badNumber, ownerUnborn, noneInFlight, pairFull, notUnborn}
 use Rattle.rules.specs.Steps.{isUnborn}
 use Rattle.actions.specs.declared.Decoded.{Decoded}
 
@@ -32,6 +29,3 @@ pairRefusal refusal c = cond (eqb refusal 0) (cond (leb 4 c) pairFull 0) refusal
 
 unfoldable pub birthRefusal : ℕ → Process → ℕ
 birthRefusal refusal old = cond (eqb refusal 0) (cond (isUnborn (old .stage)) 0 notUnborn) refusal
-
-unfoldable pub timeoutRefusal : ℕ → ℕ → ℕ → ℕ → Op → ℕ
-timeoutRefusal refusal t n len o = cond (eqb refusal noFit && ltb (t + 1 + n) len && eqb (o .number) afterOp) 0 noTimeout

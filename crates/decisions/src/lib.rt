@@ -2,27 +2,24 @@
 ghost use mathlib.Core.Path.{_≡_};
 ghost use mathlib.Core.Bool.{false, not, _&&_};
 ghost use Prim.Native.Nat.{ℕ};
-ghost use lib.Dec.{eqb, ltb};
+ghost use lib.Dec.{eqb};
 ghost use lib.IntN.{_+ℤ_};
 ghost use Rattle.node.specs.declared.Signal.the-variants.{Msg, Exit, Link, Unlink, Monitor, Demonitor};
 ghost use Rattle.node.specs.Processes.{register, moved, advanced, trapped, linked, unlinked, watching, unwatching, ended};
 ghost use Rattle.node.specs.Sets.{lowestPeer};
 ghost use Rattle.node.specs.Values.{pid, normal, kill, badarg, sameValue};
-ghost use Rattle.node.specs.Ops.{recvOp};
 ghost use Rattle.rules.specs.Effects.{becomes, ends};
 ghost use Rattle.rules.specs.Run.{setsRegister, jumpsIf, integerIn, setsSum, adds, compares, sendsTo, toOther, spawns, closesTo, closes, runsLive};
 ghost use Rattle.rules.specs.Arrive.{joinsWith, received, exits, downs, takes, isMonitor, answers};
 ghost use Rattle.rules.specs.Steps.{isUnborn};
 ghost use Rattle.decisions.specs.Answers.{refusing, becoming, searching, sendingTo, says, codeAt, namedBy};
-ghost use Rattle.decisions.specs.Answers.{ranOp, ran, arrived, awaits, sumOf, integersOf};
-ghost use Rattle.decisions.specs.Decided.{decidedOf, pairRefusal, birthRefusal, timeoutRefusal};
+ghost use Rattle.decisions.specs.Answers.{ranOp, ran, arrived, sumOf, integersOf};
+ghost use Rattle.decisions.specs.Decided.{decidedOf, pairRefusal, birthRefusal};
 use actions::Decoded;
-use node::AFTER;
 use node::BAD_NUMBER;
 use node::BehaviourNumber;
 use node::MAILBOX_FULL;
 use node::Message;
-use node::NO_FIT;
 use node::NO_TIMEOUT;
 use node::NONE_IN_FLIGHT;
 use node::NOT_UNBORN;
@@ -32,7 +29,6 @@ use node::Op;
 use node::PAIR_FULL;
 use node::Process;
 use node::ProcessNumber;
-use node::RECV;
 use node::Signal;
 use node::Stage;
 use node::Value;
@@ -84,7 +80,7 @@ pub fn decide(
     }
     // A timeout at a recv goes by the run's way to the search: with a way of its own `play` takes 5 % more instructions.
     if s.expires {
-        if !awaits(p, len, op) {
+        if !receive::awaits(p, len, op) {
             return Decision::refuses(p, NO_TIMEOUT);
         }
     }
@@ -115,46 +111,6 @@ pub fn birth_refusal(refusal: u8, old: Process) -> u8
         return 0;
     }
     NOT_UNBORN
-}
-
-// 28: the refusal of a timeout at the recv at `place` of a code of len ops, where the search of the mailbox told `refusal` and `behind` is
-// what stands behind its clauses, if that is within the code.
-pub fn timeout_refusal(refusal: u8, place: u8, clauses: u8, len: u8, behind: Op) -> u8
-    ensures { λ r. ⌜ r ≡ timeoutRefusal refusal place clauses len behind ⌝ }
-{
-    if refusal != NO_FIT {
-        return NO_TIMEOUT;
-    }
-    let at = (place as u16) + 1 + (clauses as u16);
-    if (len as u16) <= at {
-        return NO_TIMEOUT;
-    }
-    if behind.number != AFTER {
-        return NO_TIMEOUT;
-    }
-    0
-}
-
-// Whether a process, whose code has len ops and which is at op, is live at a recv.
-fn awaits(p: Process, len: u8, op: Op) -> bool
-    ensures { λ b. ⌜ b ≡ awaits p len op ⌝ }
-{
-    let stage = p.stage;
-    match stage {
-        Stage::Unborn => false,
-        Stage::Live => awaits_live(p, len, op),
-        Stage::Closing => false,
-        Stage::Gone => false,
-    }
-}
-
-fn awaits_live(p: Process, len: u8, op: Op) -> bool
-    ensures { λ b. ⌜ b ≡ (ltb (p .place) len && eqb (op .number) recvOp) ⌝ }
-{
-    if len <= p.place {
-        return false;
-    }
-    op.number == RECV
 }
 
 // A run of process i, whose code has len ops and which is at op.

@@ -18,7 +18,6 @@ use actions::row_index;
 use decisions::birth_refusal;
 use decisions::decide;
 use decisions::pair_refusal;
-use decisions::timeout_refusal;
 use node::Cell;
 use node::NO_FIT;
 use node::NOT_SOUND;
@@ -249,7 +248,13 @@ fn core(n: Node, numbers: &[u32], looks: bool) -> Played
                 let y = at_most(end, 255);
                 let behind = node.ops[y];
                 next = p.moved(behind.target);
-                refusal = timeout_refusal(refusal, p.place, op.small, node.lens[w], behind);
+                refusal = receive::timeout_refusal(
+                    refusal,
+                    p.place,
+                    op.small,
+                    node.lens[w],
+                    behind,
+                );
             }
         }
         if e.sends {

@@ -1,20 +1,25 @@
--- A clause's kind, one law for each answer of `fits`; and the turns of a search: over the messages that are left, and for one message over
--- the clauses that are left. Assumes nothing.
-use mathlib.Core.Bool.{true, false}
+-- A clause's kind, one law for each answer of `fits`; the turns of a search: over the messages that are left, and for one message over
+-- the clauses that are left; and a process at a recv, by its stage. Assumes nothing.
+use mathlib.Core.Bool.{true, false, _&&_}
 use mathlib.Core.List.{List, _∷_}
 use mathlib.Core.Option.{Option, none, some}
-use mathlib.Core.Path.{_≡_, _∙_}
+use mathlib.Core.Path.{_≡_, _∙_, sym, ap}
 use Prim.Native.Nat.{ℕ, _+_, _<_, _≤_}
 use native.Mathlib.Numerals.{add-one}
 use borrow.Author.Tests.{ne-eqb}
-use lib.Dec.{eqb}
+use lib.Dec.{eqb, ltb}
 use lib.ListN.{length, getD, drop, drop-of-length-le}
 use lib.Seq.{drop-cons}
 use Rattle.node.specs.declared.Message.{Message}
 use Rattle.node.specs.declared.Op.{Op}
+use Rattle.node.specs.declared.Process.{Process}
+use Rattle.node.specs.declared.Stage.{Stage}
 use Rattle.node.specs.Nodes.{noOp}
+use Rattle.node.specs.Ops.{recvOp}
 use Rattle.node.specs.Values.{exactKind, anyKind, messageKind}
 use Rattle.rules.specs.Receive.{Fit, isValue, fits, firstClause, search}
+use Rattle.rules.specs.Timeout.{isLive}
+use Rattle.receive.specs.Waiting.{awaits}
 
 -- ---- a clause's kind: one law for each answer of `fits`
 
@@ -50,3 +55,9 @@ module _ (cs : List Op) (i k : ℕ) (m : Message) (later : Option Fit) {g : Opti
 
   pub clause-end : length cs ≤ k → g ≡ firstClause (drop k cs) i m later → g ≡ later
   clause-end h e = e ∙ rw (drop-of-length-le cs {i = k} h)
+
+-- ---- a process at a recv
+
+pub awaits-at : (p : Process) (len : ℕ) (o : Op) {s : Stage} → p .stage ≡ s → (isLive s && ltb (p .place) len && eqb (o .number) recvOp) ≡ awaits p len o
+unfolding awaits
+awaits-at p len o e = sym (ap (λ (s : Stage). isLive s && ltb (p .place) len && eqb (o .number) recvOp) e)

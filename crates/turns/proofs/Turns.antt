@@ -21,7 +21,7 @@ use Rattle.actions.specs.declared.Decoded.{Decoded}
 use Rattle.actions.specs.Places.{processAt, rowAt, behaviourAt, opAt}
 use Rattle.actions.proofs.Decoding.{Means}
 use Rattle.decisions.specs.declared.Decision.{Decision}
-use Rattle.decisions.specs.Decided.{decidedOf, pairRefusal, birthRefusal, timeoutRefusal}
+use Rattle.decisions.specs.Decided.{decidedOf, pairRefusal, birthRefusal}
 use Rattle.decisions.specs.Answers.{stateOf, refusing, sentOf, bornOf, effectOf, ran, arrived, expired, answerOf}
 use Rattle.decisions.proofs.Meanings.{At, Only, run-means, run-only, arrival-means, arrival-quiet, timeout-means, timeout-only}
 use Rattle.node.specs.declared.Cell.{Cell}
@@ -49,6 +49,7 @@ use Rattle.rules.specs.Steps.{Action, run, arrive, timeout, owner, isUnborn, nu
 use Rattle.rules.specs.Steps.{withoutMail, withBirth, commit, rule}
 use Rattle.rules.specs.Timeout.{behindClauses, atAfter, expiresIf, expiresLive, expires}
 use Rattle.rules.proofs.Commute.{incoming-oldest}
+use Rattle.receive.specs.Waiting.{timeoutRefusal}
 use Rattle.receive.proofs.Laws.{message-turn, message-end, clause-hit, clause-miss, clause-end}
 use Rattle.rules.proofs.Living.{alive}
 use Rattle.rules.proofs.Keeps.{MailOk, Keeps, NotBoth}

@@ -17,7 +17,8 @@ use Rattle.actions.specs.Places.{behaviourAt}
 use Rattle.actions.specs.declared.Decoded.{Decoded}
 use Rattle.actions.proofs.Decoding.{Means, meant}
 use Rattle.decisions.specs.declared.Decision.{Decision}
-use Rattle.decisions.specs.Decided.{decidedOf, pairRefusal, birthRefusal, timeoutRefusal}
+use Rattle.decisions.specs.Decided.{decidedOf, pairRefusal, birthRefusal}
+use Rattle.receive.specs.Waiting.{timeoutRefusal}
 use Rattle.node.specs.declared.Node.{Node}
 use Rattle.node.specs.declared.Op.{Op}
 use Rattle.node.specs.declared.Process.{Process}

@@ -9,9 +9,9 @@ use lib.Dec.{eqb}
 use Rattle.node.specs.declared.Op.{Op}
 use Rattle.node.specs.Ops.{afterOp}
 use Rattle.rules.specs.Answers.{noFit, noTimeout}
-use Rattle.decisions.specs.Decided.{timeoutRefusal}
-use Rattle.decisions.proofs.timeout_refusal.Statement.{statement}
-use Rattle.decisions.proofs.timeout_refusal.Tie as tie
+use Rattle.receive.specs.Waiting.{timeoutRefusal}
+use Rattle.receive.proofs.timeout_refusal.Statement.{statement}
+use Rattle.receive.proofs.timeout_refusal.Tie as tie
 
 returns : tie.Need-returns
 unfolding timeoutRefusal

@@ -1,8 +1,8 @@
 -- `awaits_live` looks at the length before the op. Assumes nothing.
 use native.Mathlib.Omega.{arith}
 use borrow.Author.Tests.{lt-ltb, le-ltb}
-use Rattle.decisions.proofs.awaits_live.Statement.{statement}
-use Rattle.decisions.proofs.awaits_live.Tie as tie
+use Rattle.receive.proofs.awaits_live.Statement.{statement}
+use Rattle.receive.proofs.awaits_live.Tie as tie
 
 returns : tie.Need-returns
 returns c = let past = c .if1 .taken in rw (le-ltb (c .before .before .args .p .place) (c .before .before .args .len) (omega (arith, past)))

@@ -1,9 +1,9 @@
 -- `awaits`: by the stage. Assumes nothing.
 use mathlib.Core.Path.{_∙_}
 use borrow.Author.Needs.{needs}
-use Rattle.decisions.proofs.Laws.{awaits-at}
-use Rattle.decisions.proofs.awaits.Statement.{statement}
-use Rattle.decisions.proofs.awaits.Tie as tie
+use Rattle.receive.proofs.Laws.{awaits-at}
+use Rattle.receive.proofs.awaits.Statement.{statement}
+use Rattle.receive.proofs.awaits.Tie as tie
 
 enum-told : tie.Need-enum-told
 enum-told c = search needs
