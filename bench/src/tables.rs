@@ -13,7 +13,8 @@ pub fn method() {
     println!("ends the run. The tuned Rust searches a mailbox as document 01 says, messages in order and, for each, clauses in order; M-106's search is");
     println!("not in it.\n");
     println!("The calls are timed in turn, proved, tuned, proved and so on, again and again, in {} processes with environments of different", processes::COUNT);
-    println!("sizes, since the time of one build moves with where the stack lies. Of each call the shortest time of all processes counts.\n");
+    println!("sizes, since the time of one build moves with where the stack lies. Of each call the shortest time of all processes counts. Each function");
+    println!("of both starts a cache line of 64 bytes, since the time moves with where the linker puts it, too.\n");
 }
 
 fn time(times: &Times, name: &str) -> Time {
