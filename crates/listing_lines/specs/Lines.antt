@@ -31,8 +31,9 @@ use Rattle.rules.specs.Nodes.{Standing, unborn, live, closing, gone}
 use Rattle.node.specs.Values.{numbers}
 use Rattle.text.specs.Values.{valueText}
 use Rattle.text.specs.Writing.{digits, lineEnd, numberLine, each}
-use Rattle.listing_lines.specs.Words.{processKey, liveLine, closingLine, goneLine, behaviourKey, placeKey, trapKey, linksKey, watchesKey, watchersKey, reasonKey, mailKey, messageKey, noteKey}
-use Rattle.listing_lines.specs.Words.{downKey, flightKey, msgKey, exitKey, linkLine, unlinkLine, monitorLine, demonitorLine, downSignalKey}
+use Rattle.listing_lines.specs.Words.{processKey, liveLine, closingLine, goneLine, behaviourKey, placeKey, trapKey, linksKey, watchesKey, watchersKey}
+use Rattle.listing_lines.specs.Words.{reasonKey, mailKey, messageKey, noteKey, downKey}
+use Rattle.listing_lines.specs.Words.{flightKey, msgKey, exitKey, linkLine, unlinkLine, monitorLine, demonitorLine, downSignalKey}
 
 abbrev pub comma : List ℕ
 comma = bytes ","

@@ -76,7 +76,16 @@ operandOf c n KindK l = clauseKind l
 
 -- an op with its small number and its value anew
 abbrev pub withValue : Op → ℕ → Value → Op
-withValue o small v = record { number = o .number; r = o .r; s = o .s; target = o .target; small = small; value = v; process = o .process; behaviour = o .behaviour }
+withValue o small v = record {
+  number = o .number;
+  r = o .r;
+  s = o .s;
+  target = o .target;
+  small = small;
+  value = v;
+  process = o .process;
+  behaviour = o .behaviour;
+}
 
 -- the fields are those that rules' `operand` reads
 unfoldable pub withOperand : Op → OperandKind → ReadOperand → Op
@@ -108,7 +117,10 @@ behindField e s = drop 1 (fieldsOf (drop e s))
 
 -- op number k without operands
 abbrev pub bare : ℕ → Coded
-bare k = record { refusal = 0; op = record { number = k; r = 0; s = 0; target = 0; small = 0; value = intZero; process = record { 0 = 0 }; behaviour = record { 0 = 0 } } }
+bare k = record {
+  refusal = 0;
+  op = record { number = k; r = 0; s = 0; target = 0; small = 0; value = intZero; process = record { 0 = 0 }; behaviour = record { 0 = 0 } };
+}
 
 abbrev pub noCode : Coded
 noCode = record { refusal = malformed; op = noOp }
