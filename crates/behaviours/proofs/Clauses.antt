@@ -12,7 +12,7 @@ use lib.ListN.{length, getD, take, drop, drop-of-length-le}
 use lib.Seq.{drop-cons, take-suc}
 use Rattle.node.specs.Lists.{allFrom, allOf}
 use Rattle.node.specs.Ops.{afterOp, clauseOp, recvOp}
-use Rattle.rules.specs.Behaviours.{Instruction, clauseCount, codeSound, due, dueNext, hasClauses, inRange, isAfter, isClause, isRecv, targetsFree, wellPlaced}
+use Rattle.rules.specs.Behaviours.{Instruction, clauseCount, codeSound, due, dueNext, hasClauses, inRange, inTurn, isAfter, isClause, isRecv, targetsFree, wellPlaced}
 use Rattle.rules.proofs.All.{parts}
 use Rattle.behaviours.specs.Codes.{placedBy}
 
@@ -58,7 +58,7 @@ left-end c n code t k h = rw (drop-of-length-le code {i = t} h) (go k)
 -- one op x, with `rest` behind it: r says that it is in range, f that it leads to no part of a recv, g what the ops behind it give
 module _ (x : Instruction) (rest : List Instruction) (r f g : Bool) where
   now : ℕ → Bool
-  now k = hasClauses (k - 1) (x ∷ rest) && (r && ((not (isRecv x) || hasClauses (clauseCount x) rest) && (not (isClause x) || ltb 1 k) && (not (isAfter x) || eqb k 1) && f) && g)
+  now k = hasClauses (k - 1) (x ∷ rest) && (r && ((not (isRecv x) || hasClauses (clauseCount x) rest) && inTurn (x .number) k && f) && g)
 
   other : (m n : ℕ) → eqb (x .number) m ≡ true → eqb m n ≡ false → eqb (x .number) n ≡ false
   other m n e h = ap (λ (j : ℕ). eqb j n) (eqb-true (x .number) m e) ∙ h
@@ -71,9 +71,9 @@ module _ (x : Instruction) (rest : List Instruction) (r f g : Bool) where
   many : (k : ℕ) → 1 < k → hasClauses (k - 1) (x ∷ rest) ≡ (isClause x && hasClauses (k - 2) rest)
   many k h = let e : k - 1 ≡ suc (k - 2) = omega arith in rw e (has-more (k - 2) x rest)
 
-  thrice : (b : Bool) → ((b && true && true && true) && g) ≡ (b && g)
-  thrice true = refl
-  thrice false = refl
+  twice : (b : Bool) → ((b && true && true) && g) ≡ (b && g)
+  twice true = refl
+  twice false = refl
 
   goes : (k : ℕ) (a p b : Bool) → isClause x ≡ a → isAfter x ≡ p → isRecv x ≡ b → r ≡ true → f ≡ true → placedBy k x ≡ true → now k ≡ (hasClauses (dueNext k x - 1) rest && g)
   unfolding now placedBy
@@ -86,7 +86,7 @@ module _ (x : Instruction) (rest : List Instruction) (r f g : Bool) where
       rw (few k (omega (arith, l)), ea, ep, other afterOp recvOp ep refl, er, ef, eq-eqb k 1 l, has-none rest)
   goes k false false true ea ep eb er ef h =
       let e : clauseCount x + 1 - 1 ≡ clauseCount x = omega arith in
-      rw (few k (leb-true k 1 (rw (ea, ep) at h)), ea, ep, eb, er, ef, e) (thrice (hasClauses (clauseCount x) rest))
+      rw (few k (leb-true k 1 (rw (ea, ep) at h)), ea, ep, eb, er, ef, e) (twice (hasClauses (clauseCount x) rest))
   goes k false false false ea ep eb er ef h = rw (few k (leb-true k 1 (rw (ea, ep) at h)), ea, ep, eb, er, ef, has-none rest)
 
   stops : (k : ℕ) (a p : Bool) → isClause x ≡ a → isAfter x ≡ p → placedBy k x ≡ false → now k ≡ false
@@ -96,12 +96,12 @@ module _ (x : Instruction) (rest : List Instruction) (r f g : Bool) where
       rw (ea, l, and-false (not (isRecv x) || hasClauses (clauseCount x) rest), and-false r, and-false)
   stops k false true ea ep h =
       let l : eqb k 1 ≡ false = rw (ea, ep) at h in
-      rw (ea, ep, l, and-false ((not (isRecv x) || hasClauses (clauseCount x) rest) && true), and-false r, and-false)
+      rw (ea, ep, l, and-false (not (isRecv x) || hasClauses (clauseCount x) rest), and-false r, and-false)
   stops k false false ea ep h = rw (many k (leb-false k 1 (rw (ea, ep) at h)), ea)
 
   bars : (k : ℕ) → f ≡ false → now k ≡ false
   unfolding now
-  bars k ef = rw (ef, and-false ((not (isRecv x) || hasClauses (clauseCount x) rest) && (not (isClause x) || ltb 1 k) && (not (isAfter x) || eqb k 1)), and-false r, and-false)
+  bars k ef = rw (ef, and-false ((not (isRecv x) || hasClauses (clauseCount x) rest) && inTurn (x .number) k), and-false r, and-false)
 
 -- a turn at place t, whose op is x, where k parts of a recv may stand
 module _ (c n : ℕ) (code : List Instruction) (t : ℕ) (d x : Instruction) (k : ℕ) (h : t < length code) (at : getD code t d ≡ x) (by : k ≡ due 0 (take t code)) where

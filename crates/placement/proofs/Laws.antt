@@ -18,10 +18,10 @@ use Rattle.node.specs.Lists.{allFrom}
 use Rattle.node.specs.Nodes.{noOp}
 use Rattle.node.specs.Ops.{afterOp, clauseOp, kindsOf, recvOp}
 use Rattle.node.proofs.Lists.{all-more, all-stop, all-end, allOf-from}
-use Rattle.rules.specs.Behaviours.{Instruction, due, hasClauses, instruction, isClause, targetsFree, wellPlaced}
+use Rattle.rules.specs.Behaviours.{Instruction, due, hasClauses, inTurn, instruction, isClause, targetsFree, wellPlaced}
 use Rattle.behaviours.specs.Codes.{codeIn, hasTarget}
 use Rattle.behaviours.proofs.Codes.{clause-count, code-at, code-length, on-part-end, target-to}
-use Rattle.placement.specs.Misplaced.{inTurn, misplacedIn, misplacedFrom}
+use Rattle.placement.specs.Misplaced.{misplacedIn, misplacedFrom}
 
 -- ---- one op
 
@@ -39,7 +39,7 @@ module _ (n : ℕ) (ops : List Op) (k t : ℕ) (h : t < n) {o : Op} (at : o ≡ 
     pub placed-recv : o .number ≡ recvOp → r ≡ hasClauses (o .small) (drop (t + 1) (codeIn n ops k)) → r ≡ wellPlaced (codeIn n ops k) t (getD (codeIn n ops k) t (instruction noOp))
     unfolding wellPlaced instruction
     placed-recv e p = rw op-is (rw (recv-free e, clause-count o e, eq-eqb (o .number) recvOp e, ap (λ (j : ℕ). eqb j clauseOp) e, ap (λ (j : ℕ). eqb j afterOp) e)
-        (p ∙ sym (and-true _) ∙ sym (and-true _) ∙ sym (and-true _)))
+        (p ∙ sym (and-true _) ∙ sym (and-true _)))
 
     pub placed-out : (o .number ≡ recvOp → ⊥) → inTurn (o .number) (due 0 (take t (codeIn n ops k))) ≡ false → r ≡ false → r ≡ wellPlaced (codeIn n ops k) t
         (getD (codeIn n ops k) t (instruction noOp))

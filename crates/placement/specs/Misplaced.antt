@@ -3,17 +3,12 @@
 --   misplacedFrom n codes     of codes of which the first has its line `code=` at n
 --   firstCode                 the line of the first `code=`
 -- Each is the line of the first op that is not well placed; 0 where there is none.
---   inTurn n d                op n is a clause only where one is due, and an `after` only where one may stand; d parts of a recv may stand
-use mathlib.Core.Bool.{Bool, cond, not, _&&_, _||_}
+use mathlib.Core.Bool.{cond}
 use mathlib.Core.List.{List, [], _∷_}
 use Prim.Native.Nat.{ℕ, _+_}
-use lib.Dec.{eqb, ltb}
+use lib.Dec.{eqb}
 use lib.ListN.{length}
-use Rattle.node.specs.Ops.{afterOp, clauseOp}
 use Rattle.rules.specs.Behaviours.{Instruction, wellPlaced}
-
-abbrev pub inTurn : ℕ → ℕ → Bool
-inTurn n d = (not (eqb n clauseOp) || ltb 1 d) && (not (eqb n afterOp) || eqb d 1)
 
 unfoldable pub misplacedIn : List Instruction → ℕ → ℕ → List Instruction → ℕ
 misplacedIn code t n [] = 0

@@ -8,9 +8,9 @@ ghost use mathlib.Core.Path.{_≡_};
 ghost use Prim.Native.Nat.{_+_, _*_, _<_};
 ghost use lib.ListN.{getD, take, drop};
 ghost use Rattle.node.specs.Nodes.{noOp};
-ghost use Rattle.rules.specs.Behaviours.{due, hasClauses, instruction, targetsFree, wellPlaced};
+ghost use Rattle.rules.specs.Behaviours.{due, hasClauses, inTurn, instruction, targetsFree, wellPlaced};
 ghost use Rattle.behaviours.specs.Codes.{codeIn, codesIn};
-ghost use Rattle.placement.specs.Misplaced.{inTurn, firstCode, misplacedIn, misplacedFrom};
+ghost use Rattle.placement.specs.Misplaced.{firstCode, misplacedIn, misplacedFrom};
 
 // The line of the first op that is not well placed; 0 where there is none. Sound behaviours have none: that is one pass, and the walk
 // below, which copies the ops, is left to plans that are refused.

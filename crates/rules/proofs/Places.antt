@@ -44,10 +44,10 @@ well-placed code t x h =
     let a = not (isRecv x) || hasClauses (clauseCount x) (drop (t + 1) code) in
     let b = not (isClause x) || ltb 1 (due 0 (take t code)) in
     let d = not (isAfter x) || eqb (due 0 (take t code)) 1 in
-    let w = parts (a && b && d) (targetsFree code x) h in
-    let v = parts (a && b) d (w .0) in
-    let u = parts a b (v .0) in
-    record { recv = u .0; clause = u .1; after = v .1; targets = w .1 }
+    let w = parts (a && (b && d)) (targetsFree code x) h in
+    let v = parts a (b && d) (w .0) in
+    let u = parts b d (v .1) in
+    record { recv = v .0; clause = u .0; after = u .1; targets = w .1 }
 
 module _ (c : ℕ) (code : List Instruction) (h : So (codeSound c code)) where
   pub code-short : length code ≤ 32

@@ -102,12 +102,15 @@ targetFree code kind x = not (isKind PlaceT kind) || not (onPart code (x .number
 unfoldable pub targetsFree : List Instruction → Instruction → Bool
 targetsFree code x = allTwo (targetFree code) (kindsOf (x .number)) (x .operands)
 
+-- where d parts of a recv may still stand, op n is a clause only before the last of them, and an `after` only as the last
+abbrev pub inTurn : ℕ → ℕ → Bool
+inTurn n d = (not (eqb n clauseOp) || ltb 1 d) && (not (eqb n afterOp) || eqb d 1)
+
 -- "recv without its clauses, stray clause, target place on a clause"; `after` is "allowed only directly behind the last clause of a recv"
 unfoldable pub wellPlaced : List Instruction → ℕ → Instruction → Bool
 wellPlaced code t x =
     (not (isRecv x) || hasClauses (clauseCount x) (drop (t + 1) code))
-    && (not (isClause x) || ltb 1 (due 0 (take t code)))
-    && (not (isAfter x) || eqb (due 0 (take t code)) 1)
+    && inTurn (x .number) (due 0 (take t code))
     && targetsFree code x
 
 -- "A behaviour is a row of N ops"; N is 1 to 32

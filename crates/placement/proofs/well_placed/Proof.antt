@@ -1,7 +1,7 @@
 -- `well_placed` gives rule 14 of an op, by its number. Assumes nothing.
 use mathlib.Core.Path.{refl, sym, _∙_, ap}
 use borrow.Author.Needs.{needs}
-use Rattle.placement.specs.Misplaced.{inTurn}
+use Rattle.rules.specs.Behaviours.{inTurn}
 use Rattle.placement.proofs.Laws.{placed-recv, placed-out, placed-in}
 use Rattle.placement.proofs.well_placed.Statement.{statement}
 use Rattle.placement.proofs.well_placed.Tie as tie
