@@ -14,6 +14,7 @@ mod texts;
 mod timeouts;
 mod unsound;
 mod watches;
+mod writes;
 
 fn main() {
     full::all();
@@ -26,4 +27,5 @@ fn main() {
     plays::all();
     texts::all();
     lists::all();
+    writes::all();
 }

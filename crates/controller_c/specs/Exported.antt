@@ -1,10 +1,36 @@
 -- What the exported calls answer: one number, since a C caller takes no record.
---   exported x   the length that x tells, or the largest usize where x tells a refusal, which can only be 30
-use mathlib.Core.Bool.{cond}
+--   exported x          the length that x tells, or the largest usize where x tells a refusal, which can only be 30
+--   unsound             the usize below the largest
+--   exportedWritten x   the length that x tells, the largest usize where x tells 30, or the one below it where x tells 31
+--   rewritten x y old   the number that is told where the behaviours of the load x are written with the starts of the load y into the buffer
+--                       `old`: 0 where a load is refused;  rewrittenShown x y old  the buffer behind it
+use mathlib.Core.Bool.{Bool, _&&_, cond}
+use mathlib.Core.List.{List}
 use Prim.Native.Nat.{ℕ}
 use lib.Dec.{eqb}
-use Rattle.listing.specs.declared.Listed.{Listed}
+use Rattle.node.specs.Starts.{nodeBehaviours, nodeStarts, startsIn}
 use Rattle.text.specs.Writing.{top}
+use Rattle.plan.specs.declared.Loaded.{Loaded}
+use Rattle.listing.specs.Answers.{outputShort}
+use Rattle.listing.specs.declared.Listed.{Listed}
+use Rattle.plan_writer.specs.Answers.{codesOf, writeTold, writeShown}
+use Rattle.plan_writer.specs.declared.Written.{Written}
 
 unfoldable pub exported : Listed → ℕ
 exported x = cond (eqb (x .number) 0) (x .length) top
+
+abbrev pub unsound : ℕ
+unsound = 18446744073709551614
+
+unfoldable pub exportedWritten : Written → ℕ
+exportedWritten x = cond (eqb (x .number) 0) (x .length) (cond (eqb (x .number) outputShort) top unsound)
+
+abbrev pub bothLoaded : Loaded → Loaded → Bool
+bothLoaded x y = eqb (x .number) 0 && eqb (y .number) 0
+
+unfoldable pub rewritten : Loaded → Loaded → List ℕ → ℕ
+rewritten x y old =
+    cond (bothLoaded x y) (exportedWritten (writeTold (codesOf (nodeBehaviours (x .node))) (startsIn (nodeStarts (y .node))) old)) 0
+
+unfoldable pub rewrittenShown : Loaded → Loaded → List ℕ → List ℕ
+rewrittenShown x y old = cond (bothLoaded x y) (writeShown (codesOf (nodeBehaviours (x .node))) (startsIn (nodeStarts (y .node))) old) old

@@ -6,7 +6,7 @@
 --   left-process left-message         a turn of the loop over processes, and of that over messages; with -end, the ends of these loops
 --   left-pair left-signal             the same for pairs and signals;  left-no-pair  a pair without signals
 use mathlib.Core.Bool.{Bool, true, false, cond}
-use mathlib.Core.List.{List, [], _∷_, _++_, append-assoc, flatMap}
+use mathlib.Core.List.{List, [], _∷_, _++_, flatMap}
 use mathlib.Core.Path.{_≡_, refl, sym, _∙_, ap}
 use Prim.Native.Nat.{ℕ, _+_, _-_, _*_, _/_, _%_, _≤_, _<_}
 use native.Mathlib.Nat.{zero-add, mod-eq-of-lt}
@@ -31,7 +31,7 @@ use Rattle.node.specs.Rows.{noSignal, signals}
 use Rattle.node.specs.Values.{numbers}
 use Rattle.rules.proofs.All.{rising-at}
 use Rattle.rules.specs.Nodes.{view, standing}
-use Rattle.text.proofs.Writing.{Left, left-item, left-skip, left-end, _▸_}
+use Rattle.text.proofs.Writing.{Left, each-append, left-item, left-skip, left-end, _▸_}
 use Rattle.text.specs.Writing.{Wrote, each}
 use Rattle.listing_lines.proofs.Laws.{standing-text, mail-length, mail-at, pair-none, pair-some}
 use Rattle.listing_lines.specs.Lines.{eachFrom, messageLine, mailOf, standingLines, standingText, signalLine, flightLine, pairText}
@@ -72,11 +72,6 @@ abbrev pub pairsFrom : Node → ℕ → List ℕ
 pairsFrom n i = each (pairAt n) (drop i (rising 0 256))
 
 -- ---- the listing
-
-each-append : {X : Type 0} (f : X → List ℕ) (l r : List X) → each f (l ++ r) ≡ each f l ++ each f r
-unfolding each
-each-append f [] r = refl
-each-append f (x ∷ l) r = ap (λ (t : List ℕ). f x ++ t) (each-append f l r) ∙ sym (append-assoc (f x) (each f l) (each f r))
 
 -- texts of blocks, one behind the other
 each-blocks : (f : ℕ → List ℕ) (g : ℕ → List ℕ) (l : List ℕ) → each (λ (j : ℕ). each f (g j)) l ≡ each f (flatMap g l)

@@ -69,7 +69,7 @@ pid-within : (i : ProcessNumber) → So (isNumber (i .0)) → Within (valueText 
 unfolding valueText numberText
 pid-within i h = let low = number-bounds (i .0) h in exactly (bytes "p") ⊕ two-digits (i .0) (omega arith)
 
-value-within : (v : Value) → So (valueSound v) → Within (valueText v) 12
+pub value-within : (v : Value) → So (valueSound v) → Within (valueText v) 12
 unfolding valueText numberText intText fitsInt
 value-within (Int (pos n)) h = let low = leb-true n 2147483647 h in exactly (bytes "i") ⊕ loosely 11 (omega arith) (digits-within 9 n (omega arith))
 value-within (Int (negsuc n)) h =

@@ -8,3 +8,4 @@ pub mod Sets
 pub mod Good
 pub mod Contents
 pub mod Registers
+pub mod Live

@@ -7,7 +7,7 @@ use native.Mathlib.Nat.{add-zero, le-of-suc-le-suc, not-suc-le-zero}
 use native.Mathlib.Numerals.{add-one}
 use native.Mathlib.Omega.{arith}
 use lib.ListN.{length, getD, take, drop, set, length-append, length-map, drop-of-length-le, List·getD-map, List·getD-eq-default}
-use lib.Seq.{drop-cons}
+use lib.Seq.{drop-cons, sets}
 use Rattle.node.specs.Lists.{firsts, leave, rising, allFrom, allOf, allTwo}
 
 module _ {A : Type 0} where
@@ -148,3 +148,10 @@ module _ {A : Type 0} where
   pub allFrom-rising : (f : ℕ → A → Bool) (h : ℕ → A) (i n : ℕ) → allFrom f i (map h (rising i n)) ≡ allOf (λ (k : ℕ). f k (h k)) (rising i n)
   allFrom-rising f h i zero = refl
   allFrom-rising f h i (suc n) = ap (λ (b : Bool). f i (h i) && b) (allFrom-rising f h (i + 1) n)
+
+-- a store behind those that are there is one element more
+pub sets-more : {A : Type 0} (l : List A) (i : ℕ) (xs : List A) (x : A) → set (sets l i xs) (i + length xs) x ≡ sets l i (xs ++ (x ∷ []))
+sets-more {A} l i [] x = let e : i + 0 ≡ i = omega arith in ap (λ (k : ℕ). set l k x) e
+sets-more {A} l i (y ∷ xs) x =
+    let e : i + suc (length xs) ≡ suc i + length xs = omega arith in
+    ap (λ (k : ℕ). set (sets (set l i y) (suc i) xs) k x) e ∙ sets-more (set l i y) (suc i) xs x

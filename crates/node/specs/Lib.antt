@@ -8,3 +8,4 @@ pub mod Processes
 pub mod Mailboxes
 pub mod Rows
 pub mod Nodes
+pub mod Starts

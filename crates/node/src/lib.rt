@@ -2,7 +2,7 @@
 ghost use mathlib.Core.Bool.{_&&_};
 ghost use mathlib.Core.List.{[], _∷_};
 ghost use mathlib.Core.Path.{_≡_};
-ghost use Prim.Native.Nat.{_+_, _-_, min};
+ghost use Prim.Native.Nat.{_+_, _-_, _<_, min};
 ghost use lib.Dec.{leb};
 ghost use lib.ListN.{getD};
 ghost use Rattle.node.specs.declared.OperandKind.the-variants.{NoOperand};
@@ -15,6 +15,7 @@ ghost use Rattle.node.specs.Sets.{noPeers, has, withPeer, withoutPeer, l
 ghost use Rattle.node.specs.Mailboxes.{noMessage};
 ghost use Rattle.node.specs.Rows.{noSignal};
 ghost use Rattle.node.specs.Nodes.{blankNode, noOp};
+ghost use Rattle.node.specs.Starts.{nodeBehaviours, nodeStarts, rowOf, rowWith, startOf};
 
 // A process number (process identifier), 1 to 16.
 pub struct ProcessNumber(pub u8);
@@ -191,6 +192,25 @@ pub struct Node {
     pub slots: [Slot; 256],
     pub counts: [u8; 256],
     pub cells: [Cell; 1024],
+}
+
+// Behaviours as a node holds them: behaviour b (of `count`) has `lens[b - 1]` ops, from `ops[32 * (b - 1)]` on.
+pub struct Behaviours {
+    pub count: u8,
+    pub lens: [u8; 8],
+    pub ops: [Op; 256],
+}
+
+// A process that a plan starts, and the behaviour that it starts with.
+pub struct Start {
+    pub process: ProcessNumber,
+    pub behaviour: BehaviourNumber,
+}
+
+// A row of starts: the first `count` of the list.
+pub struct Starts {
+    pub count: u8,
+    pub list: [Start; 16],
 }
 
 // A step by its kind: 0 is `run owner`, 1 is `arrive owner from from`, 2 is `timeout owner`.
@@ -808,7 +828,74 @@ impl Cell {
     }
 }
 
+impl Starts {
+    // A row without starts.
+    pub fn none() -> Starts
+        ensures { λ r. ⌜ r ≡ rowOf [] ⌝ }
+    {
+        let blank = Start {
+            process: ProcessNumber(0),
+            behaviour: BehaviourNumber(0),
+        };
+        Starts {
+            count: 0,
+            list: [blank; 16],
+        }
+    }
+
+    // The start of process p, whose number is i, behind the others, where p is live.
+    fn with_live(self, i: u8, p: Process) -> Starts
+        requires { ⌜ self .count < 16 ⌝ }
+        ensures { λ r. ⌜ r ≡ rowWith (p .stage) self (startOf i p) ⌝ }
+    {
+        let mut row = self;
+        let stage = p.stage;
+        match stage {
+            Stage::Unborn => row,
+            Stage::Live => {
+                let k = row.count as usize;
+                let behaviour = p.behaviour;
+                let start = Start {
+                    process: ProcessNumber(i),
+                    behaviour,
+                };
+                row.list[k] = start;
+                row.count += 1;
+                row
+            }
+            Stage::Closing => row,
+            Stage::Gone => row,
+        }
+    }
+}
+
 impl Node {
+    pub fn behaviours(self) -> Behaviours
+        ensures { λ r. ⌜ r ≡ nodeBehaviours self ⌝ }
+    {
+        let lens = self.lens;
+        let ops = self.ops;
+        Behaviours {
+            count: self.count,
+            lens,
+            ops,
+        }
+    }
+
+    // Its live processes, rising, each with its behaviour: of a node that a load gave, the starts of its plan.
+    pub fn starts(self) -> Starts
+        ensures { λ r. ⌜ r ≡ nodeStarts self ⌝ }
+    {
+        let mut row = Starts::none();
+        let mut k: u8 = 0;
+        while k < 16 {
+            let p = self.processes[k as usize];
+            row = row.with_live(k + 1, p);
+            k += 1;
+        }
+        row
+    }
+
     // The node of a refused load: its one behaviour is `stop,0`, all processes are unborn, nothing is in flight.
     pub fn blank() -> Node
         ensures { λ r. ⌜ r ≡ blankNode ⌝ }

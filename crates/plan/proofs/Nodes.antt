@@ -12,6 +12,7 @@ use Rattle.node.specs.declared.ProcessNumber.{ProcessNumber}
 use Rattle.node.specs.declared.Process.{Process}
 use Rattle.node.specs.Processes.{unborn, fresh}
 use Rattle.node.specs.Values.{intZero}
+use Rattle.node.proofs.Lists.{sets-more}
 use Rattle.plan_line.specs.declared.Start.{Start}
 use Rattle.plan.specs.declared.Codes.{Codes}
 use Rattle.plan.specs.declared.Mark.{Mark}
@@ -20,12 +21,6 @@ use Rattle.plan_line.specs.Lines.{startLine}
 use Rattle.plan.specs.Plans.{beforeFirst, lastFrom, remade, processOf, codedNode, withOps, withCode, withStart, withEach}
 use Rattle.plan.specs.Reading.{onLine}
 use Rattle.plan.proofs.Loops.{mapped-same}
-
-sets-more : {A : Type 0} (l : List A) (i : ℕ) (xs : List A) (x : A) → set (sets l i xs) (i + length xs) x ≡ sets l i (xs ++ (x ∷ []))
-sets-more {A} l i [] x = let e : i + 0 ≡ i = omega arith in ap (λ (k : ℕ). set l k x) e
-sets-more {A} l i (y ∷ xs) x =
-    let e : i + suc (length xs) ≡ suc i + length xs = omega arith in
-    ap (λ (k : ℕ). set (sets (set l i y) (suc i) xs) k x) e ∙ sets-more (set l i y) (suc i) xs x
 
 -- node n with op x at place k of behaviour c + 1, which ends there
 abbrev withOp : ℕ → Node → ℕ → Op → Node

@@ -1,6 +1,6 @@
--- What is told of a refused text: a number of at most 14 and a line of at most 16,385, one past the last that a text can have.
+-- What is told of a refused text: a number from 1 to 14 and a line of at most 16,385, one past the last that a text can have.
 -- Assumes nothing.
---   Bounded m r    a refusal's number is at most 14 and its line at most m; behind a result at most m lines are counted
+--   Bounded m r    a refusal's number is 1 to 14 and its line at most m; behind a result at most m lines are counted
 --   plan-bounded   so for the lines of a plan
 --   load-told      so for every load
 use mathlib.Core.Bool.{Bool, true, false, So, _&&_, cond}
@@ -35,18 +35,18 @@ abbrev past : Left → ℕ
 past l = l .first + length (l .text .whole)
 
 abbrev pub Bounded : {A : Type 0} → ℕ → Read A → Type 0
-Bounded m (bad k n) = (k ≤ illPlaced) × (n ≤ m)
+Bounded m (bad k n) = (1 ≤ k) × (k ≤ illPlaced) × (n ≤ m)
 Bounded m (good a l) = past l ≤ m
 
 -- ---- reading line by line
 
 module _ (m : ℕ) {A : Type 0} where
   judged-bounded : (x : Answer A) (n : ℕ) (ls : Lines) → Told Low x → n + 1 + length (ls .whole) ≤ m → Bounded m (judged x n ls)
-  judged-bounded (refused k) n ls t h = (omega (arith, t), omega arith)
+  judged-bounded (refused k) n ls t h = (t .0, omega (arith, t .1), omega arith)
   judged-bounded (done a) n ls t h = h
 
   first-bounded : (f : List ℕ → Answer A) → ((line : List ℕ) → Told Low (f line)) → (n : ℕ) (ls : List (List ℕ)) (rest : List ℕ) → n + length ls ≤ m → Bounded m (firstOf f n ls rest)
-  first-bounded f t n [] rest h = (omega arith, omega arith)
+  first-bounded f t n [] rest h = (omega arith, omega arith, omega arith)
   first-bounded f t n (line ∷ ls) rest h = judged-bounded (f line) n (record { whole = ls; rest = rest }) (t line) (omega arith)
 
   line-bounded : (f : List ℕ → Answer A) → ((line : List ℕ) → Told Low (f line)) → (l : Left) → past l ≤ m → Bounded m (onLine f l)
@@ -63,8 +63,8 @@ module _ (m : ℕ) {A : Type 0} where
     where
       go : (ls : List (List ℕ)) (rest : List ℕ) → Bounded m (nothingIn a l ls rest)
       go [] [] = h
-      go [] (b ∷ rest) = (omega arith, omega arith)
-      go (line ∷ ls) rest = (omega arith, omega arith)
+      go [] (b ∷ rest) = (omega arith, omega arith, omega arith)
+      go (line ∷ ls) rest = (omega arith, omega arith, omega arith)
 
 module _ (m : ℕ) {A : Type 0} where
   times-bounded : (n : ℕ) (f : A → Left → Read A) → ((a : A) (l : Left) → past l ≤ m → Bounded m (f a l)) → (a : A) (l : Left) → past l ≤ m → Bounded m (times n f a l)
@@ -136,7 +136,7 @@ checked-low p k = go (eqb (misplaced (nodeOf p)) 0)
     go false = refused-low illPlaced (misplaced (nodeOf p)) (omega arith) (misplaced-low p k)
 
 read-low : (l : Left) (r : Read Plan) → planLines l ≡ r → Bounded 16385 r → LoadLow (loadedFrom r)
-read-low l (bad k n) e h = refused-low k n (h .0) (h .1)
+read-low l (bad k n) e h = refused-low k n (h .1) (h .2)
 read-low l (good p rest) e h = checked-low p (plan-kept l e)
 
 pub load-told : (text : List ℕ) → (loadOf text .number ≤ illPlaced) × (loadOf text .line ≤ 16385)

@@ -150,7 +150,7 @@ codes-sound c (code ∷ codes) h g =
 -- ---- the node of a plan
 
 -- f leaves what `get` reads
-each-keeps : {A B : Type 0} (get : Node → B) (f : Node → A → Node) → ((n : Node) (x : A) → get (f n x) ≡ get n) → (n : Node) (xs : List A) → get (withEach f n xs) ≡ get n
+pub each-keeps : {A B : Type 0} (get : Node → B) (f : Node → A → Node) → ((n : Node) (x : A) → get (f n x) ≡ get n) → (n : Node) (xs : List A) → get (withEach f n xs) ≡ get n
 each-keeps get f h n [] = refl
 each-keeps get f h n (x ∷ xs) = each-keeps get f h (f n x) xs ∙ h n x
 

@@ -123,7 +123,7 @@ smallKind kind = isKind FlagF kind || isKind CountN kind || isKind KindK kind
 abbrev valueKind : OperandKind → Bool
 valueKind kind = isKind ValueV kind || isKind KindK kind
 
-abbrev apart : OperandKind → OperandKind → Bool
+abbrev pub apart : OperandKind → OperandKind → Bool
 apart k j = not (isKind k j) && not (smallKind k && smallKind j) && not (valueKind k && valueKind j)
 
 record Apart (k j : OperandKind) : Type 0 where
@@ -151,29 +151,29 @@ operand-untouched o CountN j x h = rw (h .small refl)
 operand-untouched o KindK j x h = rw (h .small refl, h .value refl)
 
 -- each kind is apart from those behind it
-distinct : List OperandKind → Bool
+unfoldable pub distinct : List OperandKind → Bool
 distinct [] = true
 distinct (k ∷ ks) = allOf (apart k) ks && distinct ks
 
-distinct-kinds : (k : ℕ) → So (distinct (kindsOf k))
+pub distinct-kinds : (k : ℕ) → So (distinct (kindsOf k))
 unfolding distinct kindsOf
 distinct-kinds k = allOf-any distinct [] opKinds refl refl k
 
 module _ (c n : ℕ) where
   -- a refusal stays, and so does the op's number
-  operands-clean : (o : Coded) (ks : List OperandKind) (ls : List (List ℕ)) → operandsOf c n o ks ls .refusal ≡ 0 → o .refusal ≡ 0
+  pub operands-clean : (o : Coded) (ks : List OperandKind) (ls : List (List ℕ)) → operandsOf c n o ks ls .refusal ≡ 0 → o .refusal ≡ 0
   unfolding operandsOf
   operands-clean o [] ls h = h
   operands-clean o (k ∷ ks) [] h = h
   operands-clean o (k ∷ ks) (l ∷ ls) h = worse-none (o .refusal) (operandOf c n k l .refusal) (operands-clean (withJoined o k (operandOf c n k l)) ks ls h) .0
 
-  operands-number : (o : Coded) (ks : List OperandKind) (ls : List (List ℕ)) → operandsOf c n o ks ls .op .number ≡ o .op .number
+  pub operands-number : (o : Coded) (ks : List OperandKind) (ls : List (List ℕ)) → operandsOf c n o ks ls .op .number ≡ o .op .number
   unfolding operandsOf withOperand
   operands-number o [] ls = refl
   operands-number o (k ∷ ks) [] = refl
   operands-number o (k ∷ ks) (l ∷ ls) = operands-number (withJoined o k (operandOf c n k l)) ks ls
 
-  operands-untouched : (o : Coded) (k : OperandKind) (ks : List OperandKind) (ls : List (List ℕ)) → So (allOf (apart k) ks) → operand (operandsOf c n o ks ls .op) k ≡ operand (o .op) k
+  pub operands-untouched : (o : Coded) (k : OperandKind) (ks : List OperandKind) (ls : List (List ℕ)) → So (allOf (apart k) ks) → operand (operandsOf c n o ks ls .op) k ≡ operand (o .op) k
   unfolding operandsOf
   operands-untouched o k [] ls h = refl
   operands-untouched o k (j ∷ ks) [] h = refl

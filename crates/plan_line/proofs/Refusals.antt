@@ -1,10 +1,12 @@
 -- The refusal of a line is 11, 12 or 13. Assumes nothing.
---   header-told count-told op-told start-told   what is told of each kind of line is at most 13
+--   header-told count-told op-told start-told   what is told of each kind of line is not 0 and at most 13
 use mathlib.Core.Bool.{Bool, true, false, _&&_, cond}
 use mathlib.Core.List.{List, [], _∷_}
+use mathlib.Core.Path.{_≡_, refl}
 use Prim.Native.Nat.{ℕ, _+_, _≤_, min}
 use Prim.Native.Char.{code}
 use native.Mathlib.Omega.{arith}
+use borrow.Author.Tests.{eqb-false}
 use lib.Dec.{eqb, leb, ltb}
 use lib.IntN.{pos, negℤ}
 use lib.ListN.{length, getD, drop}
@@ -104,22 +106,22 @@ module _ (c n : ℕ) where
       go k operands false = omega arith
 
 -- ---- the refusal of a line
--- at most the last of the plan writer's numbers on a line
+-- no 0, and at most the last of the plan writer's numbers on a line
 abbrev pub Low : ℕ → Type 0
-Low k = k ≤ notRising
+Low k = (1 ≤ k) × (k ≤ notRising)
 
-answered-told : {A : Type 0} (k : ℕ) (a : A) → Low k → Told Low (answered k a)
-answered-told k a h = go (eqb k 0)
+answered-told : {A : Type 0} (k : ℕ) (a : A) → k ≤ notRising → Told Low (answered k a)
+answered-told k a h = go (eqb k 0) refl
   where
-    go : (t : Bool) → Told Low (need t k (done a))
-    go true = tt
-    go false = h
+    go : (t : Bool) → eqb k 0 ≡ t → Told Low (need t k (done a))
+    go true e = tt
+    go false e = let some = eqb-false k 0 e in (omega arith, h)
 
 pub header-told : (line : List ℕ) → Told Low (headerLine line)
 unfolding headerLine headerTold
 header-told line = answered-told (headerTold line) 1 (go (equal line header))
   where
-    go : (t : Bool) → Low (cond t 0 malformed)
+    go : (t : Bool) → cond t 0 malformed ≤ notRising
     go true = omega arith
     go false = omega arith
 
@@ -131,7 +133,7 @@ pub op-told : (c n : ℕ) (line : List ℕ) → Told Low (opLine c n line)
 unfolding opLine opTold
 op-told c n line = answered-told (opTold c n line .refusal) (opTold c n line .op) (go (startsWith opKey line))
   where
-    go : (t : Bool) → Low (cond t (codedOf c n (fieldsOf (drop (length opKey) line))) noCode .refusal)
+    go : (t : Bool) → cond t (codedOf c n (fieldsOf (drop (length opKey) line))) noCode .refusal ≤ notRising
     go true = omega (arith, coded-told c n (fieldsOf (drop (length opKey) line)))
     go false = omega arith
 

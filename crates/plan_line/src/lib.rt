@@ -11,10 +11,12 @@ use node::Value;
 use text::MALFORMED;
 use text::Parsed;
 use text::Ranged;
-ghost use mathlib.Core.List.{map};
+ghost use mathlib.Core.List.{[], map};
 ghost use mathlib.Core.Path.{_≡_};
-ghost use Prim.Native.Nat.{_<_};
+ghost use Prim.Native.Nat.{_<_, _-_};
+ghost use lib.ListN.{getD};
 ghost use Rattle.node.specs.Ops.{opCount, opWords};
+ghost use Rattle.node.specs.Values.{anyKind};
 ghost use Rattle.text.specs.Parts.{fieldsOf};
 ghost use Rattle.words.specs.Words.{packed, placeOf};
 ghost use Rattle.plan_line.specs.Ops.{worse, clauseWords, ranged, exact, clauseKind, operandOf, withValue, withOperand, withJoined};
@@ -24,7 +26,7 @@ ghost use Rattle.plan_line.specs.Lines.{headerTold, countTold, opTold, s
 // Start numbers that do not rise.
 const NOT_RISING: u8 = 13;
 
-// The words of the ops, in their order, as `words::word_code` gives them.
+// The words of the ops, in their order, as `words::word_code` gives them: the reader and the writer of plan text take them from here.
 const OP_WORDS: [u64; 19] = [
     0xd0b3, // set
     0x1c_c1e3, // copy
@@ -56,6 +58,9 @@ const KIND_WORDS: [u64; 6] = [
     0x12_d1ee, // note
     0x17_5de4, // down
 ];
+
+// The number of the empty text.
+const NO_WORD: u64 = 1;
 
 // An operand as it is read: the refusal, 11 or 12, or 0; its number; and its value, where it has one.
 struct ReadOperand {
@@ -119,6 +124,28 @@ pub fn start_line(line: &[u8], count: u8, last: ProcessNumber) -> Start
         return rising(read_start(&line[6..], count), last);
     }
     no_start(MALFORMED)
+}
+
+// The word of an op, as `words::put_word` takes it; no word for a number that is no op.
+pub fn op_word(number: u8) -> u64
+    ensures { λ r. ⌜ r ≡ packed (getD opWords number []) ⌝ }
+{
+    if number < OPS {
+        let k = number as usize;
+        return OP_WORDS[k];
+    }
+    NO_WORD
+}
+
+// The word of a clause's kind, `any` being the first; no word past the last. The kind of one exact value has none, and is not asked for.
+pub fn kind_word(kind: u8) -> u64
+    ensures { λ r. ⌜ r ≡ packed (getD clauseWords (kind - anyKind) []) ⌝ }
+{
+    if LAST_KIND < kind {
+        return NO_WORD;
+    }
+    let k = node::fallen(kind) as usize;
+    KIND_WORDS[k]
 }
 
 // The number told of two refusals on a line: 11 before 12.

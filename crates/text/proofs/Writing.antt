@@ -8,7 +8,8 @@
 --                     turn, left-none at its end
 --   left-byte left-bytes-end     the same for a loop over the bytes of a text
 --   left-item left-end           the same for a loop over the elements of a list;  left-skip  an element without text
-use mathlib.Core.List.{List, [], _∷_, _++_}
+--   each-append each-map         the texts of two lists, one behind the other; those of made elements
+use mathlib.Core.List.{List, [], _∷_, _++_, append-assoc, map}
 use mathlib.Core.Logic.{⊎-elim}
 use mathlib.Core.Path.{_≡_, refl, sym, ap, _∙_}
 use Prim.Native.Nat.{ℕ, suc, _+_, _≤_, _<_, min}
@@ -122,3 +123,15 @@ module _ {X : Type 0} (f : X → List ℕ) (xs : List X) (k : ℕ) {o text m : L
   pub left-end : length xs ≤ k → Wrote o a text m e
   unfolding each
   left-end h = left-none (rw (drop-of-length-le xs h) at p)
+
+-- ---- the texts of the elements of a list
+module _ {X : Type 0} (f : X → List ℕ) where
+  pub each-append : (l r : List X) → each f (l ++ r) ≡ each f l ++ each f r
+  unfolding each
+  each-append [] r = refl
+  each-append (x ∷ l) r = ap (λ (t : List ℕ). f x ++ t) (each-append l r) ∙ sym (append-assoc (f x) (each f l) (each f r))
+
+  pub each-map : {Y : Type 0} (g : Y → X) (l : List Y) → each f (map g l) ≡ each (λ (y : Y). f (g y)) l
+  unfolding each
+  each-map g [] = refl
+  each-map g (y ∷ l) = ap (λ (t : List ℕ). f (g y) ++ t) (each-map g l)

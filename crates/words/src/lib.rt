@@ -1,7 +1,8 @@
-// Words as numbers, and their places in a table of numbers.
+// Words as numbers, their places in a table of numbers, and their letters.
 ghost use mathlib.Core.Path.{_≡_};
 ghost use Prim.Native.Nat.{_+_, _-_, _*_, _≤_, min};
-ghost use Rattle.words.specs.Words.{longWord, wordNumber, placeOf};
+ghost use Rattle.text.specs.Writing.{Wrote};
+ghost use Rattle.words.specs.Words.{longWord, wordNumber, placeOf, letters};
 
 // Past the number of every word.
 const LONG_WORD: u64 = 0x4_0000_0000_0000;
@@ -42,6 +43,19 @@ pub fn place_of(numbers: &[u64], n: u64) -> usize
         k += 1;
     }
     k
+}
+
+// The letters of a word, by its number, at a place of a buffer, as far as the buffer reaches; the place behind them is told.
+pub fn put_word(out: &mut [u8], at: usize, code: u64) -> usize
+    ensures { λ e. ⌜ Wrote (now (out .entry)) at (letters code) (now (out .exit)) e ⌝ }
+{
+    let mut e = at;
+    let mut left = code;
+    while 1 < left {
+        e = text::put_byte(out, e, 96 + ((left % 32) as u8));
+        left = left / 32;
+    }
+    e
 }
 
 // A number with one letter more, held past the numbers of all words.

@@ -1,0 +1,13 @@
+pub mod ReadNumbers
+pub mod Plain
+pub mod ReadLines
+pub mod ReadOps
+pub mod ReadPlans
+pub mod WriteNumbers
+pub mod WriteLines
+pub mod WriteOps
+pub mod StartedNodes
+pub mod WritePlans
+pub mod Longest
+pub mod RoundTrips
+pub mod Examples
