@@ -1,4 +1,4 @@
-//! A second interpreter of document 01 (the open garage node) and of requests M-100 to M-102 of
+//! A second interpreter of document 01 (the open garage node) and of requests M-100 to M-103 of
 //! document 02, with a seeded generator of cases. It shares no code and no tables with the proved
 //! crates, so that the two can be compared.
 
@@ -13,10 +13,13 @@ pub mod reorder;
 pub mod step;
 pub mod steps;
 pub mod text;
+pub mod writer;
 
 pub use cases::case;
 pub use cases::full::full;
+pub use cases::longest::longest;
 pub use coverage::Coverage;
+pub use writer::write_plan;
 
 use node::Node;
 use step::Step;

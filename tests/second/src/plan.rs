@@ -1,4 +1,4 @@
-//! Plan text: loading it into a node, and writing an op back as text.
+//! Plan text: loading it into a node.
 
 use crate::node::{Clause, Live, Node, Op, Pattern, Stage, Value, PROCESSES};
 use crate::text::{number, parts, split_lines, value_of, Refused};
@@ -21,6 +21,19 @@ pub const BAD_CLAUSES: u8 = 14;
 
 /// Loads a plan: a node ready to play, or "First bad line from 1 is told" with its number.
 pub fn load(text: &[u8]) -> Result<Node, Refused> {
+    contents(text).map(first_node)
+}
+
+/// What an accepted plan text holds.
+#[derive(Clone, Debug, PartialEq, Eq)]
+pub struct Contents {
+    pub behaviours: Vec<Vec<Op>>,
+    /// Process and behaviour of each start line.
+    pub starts: Vec<(u8, u8)>,
+}
+
+/// What a plan text holds, or its refusal.
+pub fn contents(text: &[u8]) -> Result<Contents, Refused> {
     let plan = read(text)?;
     // "14, looked for after the last line"
     if let Some(misplaced) = first_misplaced(&plan) {
@@ -29,7 +42,10 @@ pub fn load(text: &[u8]) -> Result<Node, Refused> {
             line: misplaced.line,
         });
     }
-    Ok(first_node(plan))
+    Ok(Contents {
+        behaviours: plan.codes.into_iter().map(|code| code.ops).collect(),
+        starts: plan.starts,
+    })
 }
 
 /// What 14 is told of, in a text that is refused by 14.
@@ -505,10 +521,9 @@ pub fn target_of(op: Op) -> Option<usize> {
 }
 
 /// "started processes are as spawned, r0 being i0, all others unborn, nothing in flight"
-fn first_node(plan: Plan) -> Node {
-    let behaviours = plan.codes.into_iter().map(|code| code.ops).collect();
-    let mut node = Node::new(behaviours);
-    for (process, behaviour) in plan.starts {
+fn first_node(contents: Contents) -> Node {
+    let mut node = Node::new(contents.behaviours);
+    for (process, behaviour) in contents.starts {
         let fresh = Live::fresh(behaviour, Value::Int(0));
         node.set_stage(process, Stage::Live(fresh));
     }
@@ -537,50 +552,5 @@ pub fn op_word(op: Op) -> &'static str {
         Op::Monitor(_) => "monitor",
         Op::Demonitor(_) => "demonitor",
         Op::After(_) => "after",
-    }
-}
-
-/// The op as the value of its `op=` line; the generator writes plans with it.
-pub fn op_text(op: Op) -> String {
-    let word = op_word(op);
-    match op {
-        Op::Set(r, value) => format!("{word},{r},{value}"),
-        Op::Copy(r, s) | Op::Add(r, s) | Op::Send(r, s) | Op::Exit(r, s) => {
-            format!("{word},{r},{s}")
-        }
-        Op::SelfNumber(r)
-        | Op::Link(r)
-        | Op::Unlink(r)
-        | Op::Stop(r)
-        | Op::Monitor(r)
-        | Op::Demonitor(r) => format!("{word},{r}"),
-        Op::Trap(flag) => format!("{word},{}", u8::from(flag)),
-        Op::Spawn {
-            r,
-            behaviour,
-            process,
-        } => format!("{word},{r},{behaviour},{process}"),
-        Op::Recv(count) => format!("{word},{count}"),
-        Op::Clause(clause) => format!("{word},{}", clause_text(clause)),
-        Op::Jump(target) | Op::After(target) => format!("{word},{target}"),
-        Op::Same(r, value, target) => format!("{word},{r},{value},{target}"),
-        Op::Less(r, s, target) => format!("{word},{r},{s},{target}"),
-    }
-}
-
-fn clause_text(clause: Clause) -> String {
-    let pattern = pattern_text(clause.pattern);
-    format!("{pattern},{},{},{}", clause.r, clause.s, clause.target)
-}
-
-fn pattern_text(pattern: Pattern) -> String {
-    match pattern {
-        Pattern::Any => "any".to_string(),
-        Pattern::Int => "int".to_string(),
-        Pattern::Atom => "atom".to_string(),
-        Pattern::Pid => "pid".to_string(),
-        Pattern::Note => "note".to_string(),
-        Pattern::Down => "down".to_string(),
-        Pattern::Exact(value) => value.to_string(),
     }
 }

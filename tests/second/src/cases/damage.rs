@@ -8,6 +8,7 @@ use crate::random::Random;
 use crate::step::Step;
 use crate::steps::{self, step_text};
 use crate::text::Refused;
+use crate::writer;
 
 /// A bad text and, if it is known without reading the text, how it is refused.
 pub struct Damaged {
@@ -378,7 +379,7 @@ fn some_op_line(random: &mut Random, draft: &Draft) -> OpLine {
     let lines = byte_lines(draft);
     let (behaviour, mut place) = some_op(random, draft);
     let code = &draft.behaviours[behaviour];
-    let mut text = plan::op_text(code[place]);
+    let mut text = writer::op_text(code[place]);
     let places = plain_places(code);
     if !places.is_empty() && random.chance(60) {
         place = *random.pick(&places);

@@ -2,6 +2,7 @@
 
 pub mod damage;
 pub mod full;
+pub mod longest;
 pub mod plans;
 pub mod schedules;
 

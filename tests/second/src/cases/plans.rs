@@ -1,8 +1,8 @@
 //! Valid plans: behaviours made of short runs of ops that make processes act on one another.
 
 use crate::node::{Clause, Op, Pattern, Value};
-use crate::plan::op_text;
 use crate::random::Random;
+use crate::writer;
 
 /// What a plan is rich in.
 #[derive(Clone, Copy, Debug, PartialEq, Eq)]
@@ -85,23 +85,11 @@ pub struct Draft {
 impl Draft {
     /// The lines of the plan, without byte 10.
     pub fn lines(&self) -> Vec<String> {
-        let mut lines = vec!["plan=1".to_string()];
-        lines.push(format!("behaviours={}", self.behaviours.len()));
-        for code in &self.behaviours {
-            lines.push(format!("code={}", code.len()));
-            lines.extend(code.iter().map(|&op| format!("op={}", op_text(op))));
-        }
-        lines.push(format!("starts={}", self.starts.len()));
-        for (process, behaviour) in &self.starts {
-            lines.push(format!("start={process},{behaviour}"));
-        }
-        lines
+        writer::lines(&self.behaviours, &self.starts)
     }
 
     pub fn text(&self) -> Vec<u8> {
-        let mut text = self.lines().join("\n");
-        text.push('\n');
-        text.into_bytes()
+        writer::text_of(&self.lines())
     }
 
     /// The number of the line of a behaviour's op, both counted from 0.
