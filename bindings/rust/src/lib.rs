@@ -9,7 +9,20 @@ extern "C" {
         out: *mut u8,
         out_length: usize,
     ) -> usize;
+
+    fn open_controller_write_plan(
+        behaviours_plan: *const u8,
+        behaviours_plan_length: usize,
+        starts_plan: *const u8,
+        starts_plan_length: usize,
+        out: *mut u8,
+        out_length: usize,
+    ) -> usize;
 }
+
+/// What the calls answer for refusals 30 and 31.
+const SHORT: usize = usize::MAX;
+const UNSOUND: usize = usize::MAX - 1;
 
 /// Enough for every answer.
 pub const OUTPUT: usize = 45_056;
@@ -24,10 +37,45 @@ pub fn simulate(plan: &[u8], steps: &[u8], out: &mut [u8]) -> Result<usize, Shor
     let length = unsafe {
         open_controller_simulate(plan.as_ptr(), plan.len(), steps.as_ptr(), steps.len(), out.as_mut_ptr(), out.len())
     };
-    if length == usize::MAX {
+    if length == SHORT {
         return Err(Short);
     }
     Ok(length)
+}
+
+/// Enough for every plan that is written back.
+pub const PLAN_OUTPUT: usize = 8192;
+
+/// Why no plan was written; the buffer is unchanged.
+#[derive(Debug, PartialEq, Eq, Clone, Copy)]
+pub enum NotWritten {
+    /// One of the two texts is refused.
+    Refused,
+    /// A start names a behaviour that the plan does not have, so no accepted text holds both (refusal 31).
+    Unsound,
+    /// The buffer is shorter than what is to be written (refusal 30).
+    Short,
+}
+
+/// The behaviours of one plan text with the starts of another as plan text, in the first bytes of `out`; answers its length.
+pub fn write_plan(behaviours_plan: &[u8], starts_plan: &[u8], out: &mut [u8]) -> Result<usize, NotWritten> {
+    // A slice's pointer is valid for its length and never null, and `out` is borrowed alone.
+    let length = unsafe {
+        open_controller_write_plan(
+            behaviours_plan.as_ptr(),
+            behaviours_plan.len(),
+            starts_plan.as_ptr(),
+            starts_plan.len(),
+            out.as_mut_ptr(),
+            out.len(),
+        )
+    };
+    match length {
+        0 => Err(NotWritten::Refused),
+        UNSOUND => Err(NotWritten::Unsound),
+        SHORT => Err(NotWritten::Short),
+        length => Ok(length),
+    }
 }
 
 #[cfg(test)]
@@ -68,5 +116,66 @@ mod tests {
         let mut out = [0; OUTPUT];
         let n = simulate(PLAN, b"run=1\nrun=1\nrun=1\n", &mut out).unwrap();
         assert_eq!(&out[..n], b"accepted=2\nrefused=22\nprocess=1\nstage=gone\n");
+    }
+    /// The sample of document 01.
+    const SAMPLE: &[u8] = b"plan=1\nbehaviours=2\ncode=3\nop=set,0,p2\nop=set,1,i12\nop=send,0,1\n\
+code=2\nop=recv,1\nop=clause,int,0,1,2\nstarts=2\nstart=1,1\nstart=2,2\n";
+
+    /// The sample's behaviours with the starts of `PLAN`.
+    const MIXED: &[u8] = b"plan=1\nbehaviours=2\ncode=3\nop=set,0,p2\nop=set,1,i12\nop=send,0,1\n\
+code=2\nop=recv,1\nop=clause,int,0,1,2\nstarts=1\nstart=1,1\n";
+
+    /// That nothing is written, however long the buffer is, and that the buffer is unchanged.
+    fn is_not_written(behaviours_plan: &[u8], starts_plan: &[u8], why: NotWritten) {
+        for room in [0, 1, MIXED.len(), PLAN_OUTPUT] {
+            let mut out = vec![7; room];
+            assert_eq!(write_plan(behaviours_plan, starts_plan, &mut out), Err(why));
+            assert!(out.iter().all(|byte| *byte == 7));
+        }
+    }
+
+    #[test]
+    fn a_plan_is_written_back_to_its_bytes() {
+        for text in [SAMPLE, PLAN, &second::longest()] {
+            let mut out = vec![7; PLAN_OUTPUT];
+            assert_eq!(write_plan(text, text, &mut out), Ok(text.len()));
+            assert_eq!(&out[..text.len()], text);
+            assert!(out[text.len()..].iter().all(|byte| *byte == 7));
+        }
+    }
+
+    #[test]
+    fn behaviours_and_starts_come_from_two_plans() {
+        let mut out = vec![7; PLAN_OUTPUT];
+        assert_eq!(write_plan(SAMPLE, PLAN, &mut out), Ok(MIXED.len()));
+        assert_eq!(&out[..MIXED.len()], MIXED);
+        assert!(out[MIXED.len()..].iter().all(|byte| *byte == 7));
+    }
+
+    #[test]
+    fn a_start_above_the_behaviours_is_31_and_told_before_30() {
+        is_not_written(PLAN, SAMPLE, NotWritten::Unsound);
+    }
+
+    #[test]
+    fn a_buffer_as_long_as_the_plan_is_enough_and_one_byte_less_is_unchanged() {
+        let mut exact = vec![7; MIXED.len()];
+        assert_eq!(write_plan(SAMPLE, PLAN, &mut exact), Ok(MIXED.len()));
+        assert_eq!(exact, MIXED);
+        for room in [0, 1, MIXED.len() - 1] {
+            let mut short = vec![7; room];
+            assert_eq!(write_plan(SAMPLE, PLAN, &mut short), Err(NotWritten::Short));
+            assert!(short.iter().all(|byte| *byte == 7));
+        }
+    }
+
+    #[test]
+    fn a_refused_text_gives_no_plan() {
+        let too_long = [b'x'; 16_385];
+        for refused in [b"", &SAMPLE[1..], &SAMPLE[..SAMPLE.len() - 1], &too_long[..]] {
+            is_not_written(refused, SAMPLE, NotWritten::Refused);
+            is_not_written(SAMPLE, refused, NotWritten::Refused);
+            is_not_written(refused, refused, NotWritten::Refused);
+        }
     }
 }
