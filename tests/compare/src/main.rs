@@ -1,6 +1,8 @@
-//! Compares the bytes of the proved library, and of the built program, with those of the second interpreter:
+//! Compares the bytes of the proved library, plans written back among them, and of the built program with those of the second interpreter:
 //! `compare PROGRAM SEED LIBRARY_CASES PROGRAM_CASES`. Prints what the cases reached, and fails at the first difference or where
 //! something that documents 01 and 02 name was reached by no case.
+
+mod writing;
 
 use second::Coverage;
 use std::fs::{self, File as Open};
@@ -9,6 +11,7 @@ use std::path::{Path, PathBuf};
 use std::process::{exit, Command, Output};
 use std::thread;
 use std::time::Duration;
+use writing::{comes_back, Writing};
 
 fn library(plan: &[u8], steps: &[u8]) -> Vec<u8> {
     let mut out = vec![0xA5; open_controller::OUTPUT];
@@ -169,6 +172,41 @@ fn special_files(program: &Path, folder: &Path) -> usize {
 /// How many nearly full nodes are listed.
 const FULL_CASES: u64 = 20;
 
+/// The cases of the generator, played and written back by the library.
+fn compare_library(seed: u64, cases: u64, coverage: &mut Coverage, writing: &mut Writing) {
+    for k in 0..cases {
+        let (plan, steps) = second::case(seed, k);
+        let expected = second::simulate_counted(&plan, &steps, coverage);
+        let found = library(&plan, &steps);
+        if found != expected {
+            differ("the library", &plan, &steps, &expected, &found);
+        }
+        if k % 64 == 0 {
+            check_room(&plan, &steps, &expected);
+        }
+        writing.compare(k, &plan, !expected.starts_with(b"load="));
+    }
+    comes_back(&second::longest(), true);
+}
+
+/// Nearly full nodes, listed by the library and the program, their plans written back; answers the length of the longest answer.
+fn compare_full(seed: u64, program: &Path, folder: &Path) -> usize {
+    let mut longest = 0;
+    for k in 0..FULL_CASES {
+        let (plan, steps) = second::full(seed, k);
+        let expected = second::simulate(&plan, &steps);
+        let found = library(&plan, &steps);
+        if found != expected {
+            differ("the library", &plan, &steps, &expected, &found);
+        }
+        check_room(&plan, &steps, &expected);
+        comes_back(&plan, true);
+        longest = longest.max(run_program(&mut Command::new(program), folder, &File::Bytes(plan), &File::Bytes(steps)).len());
+    }
+    assert!(longest >= 30_000, "the longest answer of the program has {longest} bytes");
+    longest
+}
+
 fn main() {
     let words: Vec<String> = std::env::args().skip(1).collect();
     let [program, seed, library_cases, program_cases] = &words[..] else {
@@ -181,44 +219,24 @@ fn main() {
     let program_cases: u64 = program_cases.parse().expect("a number");
 
     let mut coverage = Coverage::new();
-    let mut longest = 0;
-    for k in 0..library_cases {
-        let (plan, steps) = second::case(seed, k);
-        let expected = second::simulate_counted(&plan, &steps, &mut coverage);
-        let found = library(&plan, &steps);
-        if found != expected {
-            differ("the library", &plan, &steps, &expected, &found);
-        }
-        if k % 64 == 0 {
-            check_room(&plan, &steps, &expected);
-        }
-    }
+    let mut writing = Writing::default();
+    compare_library(seed, library_cases, &mut coverage, &mut writing);
     let folder = std::env::temp_dir().join(format!("open_controller-{}", std::process::id()));
     fs::create_dir_all(&folder).unwrap();
     for k in 0..program_cases {
         let (plan, steps) = second::case(seed + 1, k);
         run_program(&mut Command::new(&program), &folder, &File::Bytes(plan), &File::Bytes(steps));
     }
-    for k in 0..FULL_CASES {
-        let (plan, steps) = second::full(seed, k);
-        let expected = second::simulate(&plan, &steps);
-        let found = library(&plan, &steps);
-        if found != expected {
-            differ("the library", &plan, &steps, &expected, &found);
-        }
-        check_room(&plan, &steps, &expected);
-        longest = longest.max(run_program(&mut Command::new(&program), &folder, &File::Bytes(plan), &File::Bytes(steps)).len());
-    }
-    assert!(longest >= 30_000, "the longest answer of the program has {longest} bytes");
+    let longest = compare_full(seed, &program, &folder);
     check_full_output(&program, &folder);
     let files = special_files(&program, &folder);
     fs::remove_dir_all(&folder).unwrap();
-    print!("{coverage}");
+    print!("{coverage}{writing}");
     println!(
         "seed {seed}: the library agrees on {library_cases} cases, the program on {program_cases} cases and {files} pairs of files, \
          both on {FULL_CASES} nearly full nodes (at most {longest} bytes)"
     );
-    let missing = coverage.rarer_than(1);
+    let missing = [coverage.rarer_than(1), writing.missing()].concat();
     if !missing.is_empty() {
         println!("reached by no case: {}", missing.join("; "));
         exit(1);
