@@ -14,7 +14,7 @@
 /* Told where no accepted plan text holds what is to be written (refusal 31); `out` is then unchanged. */
 #define OPEN_CONTROLLER_UNSOUND (SIZE_MAX - 1)
 
-/* Enough for every plan that is written back. */
+/* Enough for every plan that is written, whatever the texts are (theorem short: at most 7,950 bytes). */
 #define OPEN_CONTROLLER_PLAN_OUTPUT 8192
 
 /*
@@ -32,7 +32,7 @@ size_t open_controller_simulate(const uint8_t *plan, size_t plan_length, const u
  * Returns the length; a buffer of that length is enough. Where nothing is written `out` is unchanged, and it returns 0 where one of the texts
  * is refused, else OPEN_CONTROLLER_UNSOUND where a start of the second names a behaviour that the first does not have, else
  * OPEN_CONTROLLER_SHORT. Any bytes may be given; a pointer must be valid for its length and not null, and `out` must not overlap the texts,
- * which may be one and the same.
+ * which may be one and the same. It needs less than 256 KB of stack.
  */
 size_t open_controller_write_plan(const uint8_t *behaviours_plan, size_t behaviours_plan_length, const uint8_t *starts_plan,
                                   size_t starts_plan_length, uint8_t *out, size_t out_length);

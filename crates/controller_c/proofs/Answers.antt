@@ -2,7 +2,7 @@
 --   told-refusal told-length            what is told of a play
 --   first-refused second-refused written-back   what is told of two loads: one is refused, and none is
 use mathlib.Core.List.{List}
-use mathlib.Core.Path.{_≡_, sym, ap, subst, _∙_}
+use mathlib.Core.Path.{_≡_, ap, _∙_}
 use Prim.Native.Nat.{ℕ}
 use borrow.Author.Tests.{eq-eqb, ne-eqb}
 use Rattle.node.specs.declared.Behaviours.{Behaviours}

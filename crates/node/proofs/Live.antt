@@ -2,9 +2,9 @@
 --   live-append   the live ones of two rows of processes, one behind the other
 --   live-few      there are no more of them than processes
 --   live-next     one process more, in the row
---   live-all      all of them
+--   live-all      all of them;  live-room  the row has room for each
 use mathlib.Core.List.{List, [], _∷_, _++_, append-assoc, append-nil}
-use mathlib.Core.Path.{_≡_, refl, sym, _∙_, ap}
+use mathlib.Core.Path.{_≡_, sym, _∙_, ap}
 use Prim.Native.Nat.{ℕ, suc, _+_, _≤_, _<_}
 use native.Mathlib.Omega.{arith}
 use lib.ListN.{length, getD, take, replicate, set, length-append}
@@ -61,7 +61,8 @@ module _ (ps : List Process) (k : ℕ) {row : Starts} (is : row ≡ rowOf (liveF
       let more : k + 1 ≡ suc k = omega arith in
       e ∙ ap (λ (r : Starts). rowWith (p .stage) r (startOf (k + 1) p)) is
       ∙ row-with (p .stage) (liveFrom 1 (take k ps)) (startOf (k + 1) p)
-      ∙ ap rowOf (sym (ap (λ (j : ℕ). liveFrom 1 (take j ps)) more ∙ ap (liveFrom 1) (take-suc ps k unborn h) ∙ live-append 1 (take k ps) (p ∷ []) ∙ ap (λ (l : List Start). liveFrom 1 (take k ps) ++ l) one))
+      ∙ ap rowOf (sym (ap (λ (j : ℕ). liveFrom 1 (take j ps)) more ∙ ap (liveFrom 1) (take-suc ps k unborn h)
+      ∙ live-append 1 (take k ps) (p ∷ []) ∙ ap (λ (l : List Start). liveFrom 1 (take k ps) ++ l) one))
 
   pub live-all : length ps ≤ k → row ≡ rowOf (liveFrom 1 ps)
   live-all h = is ∙ ap (λ (l : List Process). rowOf (liveFrom 1 l)) (take-all k ps h)

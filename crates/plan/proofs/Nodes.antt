@@ -66,7 +66,7 @@ counted-code n ops e = rw e
 abbrev pub begun : Node → List Start → Node × ProcessNumber
 begun n starts = (withEach withStart n starts, lastFrom beforeFirst starts)
 
-last-more : (i : ProcessNumber) (starts : List Start) (s : Start) → lastFrom i (starts ++ (s ∷ [])) ≡ s .process
+pub last-more : (i : ProcessNumber) (starts : List Start) (s : Start) → lastFrom i (starts ++ (s ∷ [])) ≡ s .process
 last-more i [] s = refl
 last-more i (t ∷ starts) s = last-more (t .process) starts s
 

@@ -56,7 +56,8 @@ unfolding codeRows each numberLine
 code-text code = ap (λ (l : List ℕ). numberLine codeKey (length code) ++ l) (each-map ended opRow code)
 
 module _ (n : ℕ) (ops : List Op) (k t : ℕ) {old m : List ℕ} {a e : ℕ} (p : Left old a (each opText (codeIn n ops k)) m e (each opText (drop t (codeIn n ops k)))) where
-  pub left-op : {u : List ℕ} {r : ℕ} → t < n → Wrote m e (opText (instruction (getD ops (32 * k + t) noOp))) u r → Left old a (each opText (codeIn n ops k)) u r (each opText (drop (t + 1) (codeIn n ops k)))
+  pub left-op : {u : List ℕ} {r : ℕ} → t < n → Wrote m e (opText (instruction (getD ops (32 * k + t) noOp))) u r
+      → Left old a (each opText (codeIn n ops k)) u r (each opText (drop (t + 1) (codeIn n ops k)))
   left-op h q =
       left-item opText (codeIn n ops k) t p (instruction noOp) (omega (arith, code-length n ops k)) (wrote-as (ap opText (sym (code-at n ops k t h))) q)
 
@@ -94,14 +95,14 @@ op-word-text n = word-text opWords n refl
 
 -- ---- a clause's kind
 
-abbrev kindOf : ℕ → Value → Operand
-kindOf k v = record { number = k; value = cond (eqb k exactKind) v intZero }
+abbrev kindOperand : ℕ → Value → Operand
+kindOperand k v = record { number = k; value = cond (eqb k exactKind) v intZero }
 
-pub exact-text : (k : ℕ) (v : Value) → k ≡ exactKind → valueText v ≡ kindText (kindOf k v)
+pub exact-text : (k : ℕ) (v : Value) → k ≡ exactKind → valueText v ≡ kindText (kindOperand k v)
 unfolding kindText
 exact-text k v e = rw (eq-eqb k exactKind e)
 
-pub kind-text : (k : ℕ) (v : Value) {w : ℕ} → (k ≡ exactKind → ⊥) → w ≡ packed (getD clauseWords (k - anyKind) []) → letters w ≡ kindText (kindOf k v)
+pub kind-text : (k : ℕ) (v : Value) {w : ℕ} → (k ≡ exactKind → ⊥) → w ≡ packed (getD clauseWords (k - anyKind) []) → letters w ≡ kindText (kindOperand k v)
 unfolding kindText
 kind-text k v n e = ap letters e ∙ word-text clauseWords (k - anyKind) refl ∙ rw (ne-eqb k exactKind n)
 
@@ -136,7 +137,8 @@ abbrev pub startText : Start → List ℕ
 startText s = ended (startRow s)
 
 module _ (s : Starts) (k : ℕ) {old m : List ℕ} {a e : ℕ} (p : Left old a (each startText (startsIn s)) m e (each startText (drop k (startsIn s)))) where
-  pub left-start : {u : List ℕ} {r : ℕ} → k < s .count → Wrote m e (startText (getD (s .list) k noStart)) u r → Left old a (each startText (startsIn s)) u r (each startText (drop (k + 1) (startsIn s)))
+  pub left-start : {u : List ℕ} {r : ℕ} → k < s .count → Wrote m e (startText (getD (s .list) k noStart)) u r
+      → Left old a (each startText (startsIn s)) u r (each startText (drop (k + 1) (startsIn s)))
   left-start h q =
       left-item startText (startsIn s) k p noStart (omega (arith, firsts-length noStart (s .count) (s .list)))
       (wrote-as (ap startText (sym (firsts-getD noStart (s .count) (s .list) k h))) q)

@@ -5,7 +5,7 @@
 --   codes-few codes-sound starts-within code-within   what a plan that passes the test gives its writers
 use mathlib.Core.Bool.{Bool, true, false, So, _&&_, not}
 use mathlib.Core.List.{List, []}
-use mathlib.Core.Path.{_≡_, refl, sym, ap, subst, _∙_}
+use mathlib.Core.Path.{_≡_, sym, ap, _∙_}
 use Prim.Native.Nat.{ℕ, _+_, _≤_, _<_}
 use native.Mathlib.Omega.{arith}
 use borrow.Author.Tests.{leb-true}

@@ -19,14 +19,13 @@ use Rattle.plan.specs.declared.Loaded.{Loaded}
 use Rattle.plan.specs.Plans.{loadOf, nodeOf}
 use Rattle.plan.proofs.Examples.{opWith, sample, samplePlan, startWith}
 use Rattle.plan_writer.specs.Texts.{codeRows, codesRows, kindText, opRow, operandText, operandsText, planRows, planText, startRow}
-use Rattle.round_trip.specs.Guarantees as guarantees
-use Rattle.round_trip.specs.Guarantees.{rowIn}
+use Rattle.round_trip.specs.Guarantees.{codesHeld, startsHeld}
 
 abbrev sampleText : List ℕ
 sampleText = bytes "plan=1\nbehaviours=2\ncode=3\nop=set,0,p2\nop=set,1,i12\nop=send,0,1\ncode=2\nop=recv,1\nop=clause,int,0,1,2\nstarts=2\nstart=1,1\nstart=2,2\n"
 
 abbrev again : Loaded → List ℕ
-again r = planText (guarantees.codesIn (r .node)) (rowIn (r .node))
+again r = planText (codesHeld (r .node)) (startsHeld (r .node))
 
 started : again (record { number = 0; line = 0; node = nodeOf samplePlan }) ≡ sampleText
 unfolding planText planRows codesRows codeRows opRow startRow operandsText operandText kindText each digits digitsIn valueText numberText intText codesIn codeIn instruction operand kindsOf nodeStarts nodeOf samplePlan opWith startWith

@@ -4,8 +4,8 @@
 --   code-within codes-within start-within starts-within   the lines of behaviours and of starts
 --   plan-short       the text of a plan has at most `longestPlan` bytes
 use mathlib.Core.Bool.{Bool, true, false, So, _&&_, cond}
-use mathlib.Core.List.{List, [], _∷_, _++_, map}
-use mathlib.Core.Path.{_≡_, refl, ap}
+use mathlib.Core.List.{List, [], _∷_, map}
+use mathlib.Core.Path.{_≡_, refl}
 use Prim.Native.Nat.{ℕ, _+_, _*_, _-_, _≤_}
 use native.Mathlib.Omega.{arith}
 use borrow.Author.Tests.{leb-true}

@@ -16,7 +16,6 @@ use lib.Dec.{leb}
 use lib.ListN.{length, length-map}
 use lib.Seq.{append-snoc}
 use Rattle.node.specs.declared.Op.{Op}
-use Rattle.node.specs.declared.ProcessNumber.{ProcessNumber}
 use Rattle.node.specs.declared.Start.{Start}
 use Rattle.node.specs.Lists.{allFrom, allOf}
 use Rattle.node.proofs.Lists.{allFrom-both, allOf-from, map-append}
@@ -31,6 +30,7 @@ use Rattle.plan.specs.Plans.{beforeFirst, checked, codeLines, lastFrom, loadOf,
 use Rattle.plan.specs.Reading.{endOf, good, Left, onLine, Read, times}
 use Rattle.plan.proofs.Behaviours.{behaviours-of}
 use Rattle.plan.proofs.Kept.{plan-kept, PlanKept}
+use Rattle.plan.proofs.Nodes.{last-more}
 use Rattle.plan_writer.specs.Answers.{planSound, startFits, startsRise}
 use Rattle.plan_writer.specs.Texts.{codeRows, codesRows, numbered, opRow, planRows, planText, startRow}
 use Rattle.round_trip.proofs.ReadLines.{clean, count-read, header-clean, header-read, lines-read, numbered-clean, op-clean, start-clean, start-read}
@@ -83,11 +83,6 @@ code-fits c code h =
     let all = parts (allFrom fits 0 xs) (allFrom (wellPlaced xs) 0 xs) (rw (allFrom-both fits (wellPlaced xs) 0 xs) at (w .1)) .0 in
     (leb-true 1 n (size .0), leb-true n 32 (size .1), rw (← allOf-from (inRange c n) 0 xs, allOf-map (inRange c n) instruction code) at all)
 
--- the process of the last of some starts
-last-behind : (i : ProcessNumber) (ss : List ReadStart) (s : ReadStart) → lastFrom i (ss ++ (s ∷ [])) ≡ s .process
-last-behind i [] s = refl
-last-behind i (x ∷ ss) s = last-behind (x .process) ss s
-
 module _ (c : ℕ) (few : c ≤ 255) where
   ops-give : (n : ℕ) → n ≤ 255 → (code : List Op) → So (allOf (opFits c n) code) → (rest : List (List ℕ)) (k : ℕ)
       → Gives (times (length code) (more (onLine (opLine c n))) [] (rowsAt (map opRow (map instruction code) ++ rest) k)) rest (λ os. map instruction os ≡ map instruction code)
@@ -137,7 +132,7 @@ module _ (c : ℕ) (few : c ≤ 255) where
       let last = lastFrom beforeFirst read in
       let w = parts (startFits c (last .0) s) (startsRise c (s .process .0) starts) h in
       let line = line-is (startLine c last) (startRow s) (map startRow starts ++ rest) k (start-read c last s few (w .0)) in
-      (asRead s, k + 1, line, (refl, rw (last-behind beforeFirst read (asRead s)) (w .1))))
+      (asRead s, k + 1, line, (refl, rw (last-more beforeFirst read (asRead s)) (w .1))))
       [] starts h [] k in
       (all .0, all .1, rw append-nil at (all .2), sym (map-id (all .0)) ∙ all .3)
 

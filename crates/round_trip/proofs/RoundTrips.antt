@@ -27,12 +27,10 @@ use Rattle.plan.specs.Plans.{Plan, loadOf, nodeOf}
 use Rattle.plan.proofs.Behaviours.{behaviours-of}
 use Rattle.plan.proofs.Kept.{PlanKept}
 use Rattle.plan.proofs.Sound.{loaded-sound}
-use Rattle.listing.specs.declared.Listed.{Listed}
 use Rattle.listing.specs.Answers.{outputShort, refusedWith, told}
 use Rattle.plan_writer.specs.Answers.{codesOf, planSound, startsSound, writeTold}
 use Rattle.plan_writer.specs.Texts.{longestPlan, planText}
-use Rattle.round_trip.specs.Guarantees as guarantees
-use Rattle.round_trip.specs.Guarantees.{Holds, LoadedWrites, OneText, rowIn, Short, ToldExactly, WrittenLoads}
+use Rattle.round_trip.specs.Guarantees.{codesHeld, Holds, LoadedWrites, OneText, Short, startsHeld, ToldExactly, WrittenLoads}
 use Rattle.round_trip.proofs.Longest.{plan-short}
 use Rattle.round_trip.proofs.ReadPlans.{asRead, load-read}
 use Rattle.round_trip.proofs.StartedNodes.{asStart, starts-of}
@@ -49,11 +47,11 @@ ops-of b = map-map (map instruction) (λ (k : ℕ). firsts noOp (getD (b .lens) 
 
 -- ---- the node of a plan
 
-node-codes : (n : Node) → guarantees.codesIn n ≡ behavioursOf n
+node-codes : (n : Node) → codesHeld n ≡ behavioursOf n
 unfolding codesIn codeIn behavioursOf code
 node-codes n = refl
 
-plan-codes : (p : Plan) → PlanKept p → guarantees.codesIn (nodeOf p) ≡ map (map instruction) (p .codes)
+plan-codes : (p : Plan) → PlanKept p → codesHeld (nodeOf p) ≡ map (map instruction) (p .codes)
 plan-codes p k = node-codes (nodeOf p) ∙ behaviours-of p k
 
 -- ---- written, then loaded
@@ -69,8 +67,8 @@ plan-holds : (text : List ℕ) (p : Plan) {codes : List (List Instruction)} {sta
 plan-holds text p {codes} {starts} c is k e f h = record {
   number = ap (λ (r : Loaded). r .number) is;
   line = ap (λ (r : Loaded). r .line) is;
-  behaviours = ap (λ (r : Loaded). guarantees.codesIn (r .node)) is ∙ plan-codes p k ∙ e;
-  row = ap (λ (r : Loaded). rowIn (r .node)) is ∙ starts-of p c (subst (λ (l : List Start). So (startsSound c l)) (sym f) h) ∙ f;
+  behaviours = ap (λ (r : Loaded). codesHeld (r .node)) is ∙ plan-codes p k ∙ e;
+  row = ap (λ (r : Loaded). startsHeld (r .node)) is ∙ starts-of p c (subst (λ (l : List Start). So (startsSound c l)) (sym f) h) ∙ f;
 }
 
 plan-starts : (codes : List (List Instruction)) (starts : List Start) → So (planSound codes starts) → So (startsSound (length codes) starts)
@@ -96,20 +94,20 @@ pub loaded-writes : LoadedWrites
 loaded-writes text e =
     let r = load-written text e in
     let p = r .0 in
-    let codes : guarantees.codesIn (loadOf text .node) ≡ map (map instruction) (p .codes) = ap guarantees.codesIn (r .1) ∙ plan-codes p (r .2) in
-    let starts : rowIn (loadOf text .node) ≡ map asStart (p .starts) = ap rowIn (r .1) ∙ starts-of p (length (p .codes)) (r .4) in
-    ap (λ (l : List (List Instruction)). planText l (rowIn (loadOf text .node))) codes ∙ ap (planText (map (map instruction) (p .codes))) starts ∙ sym (r .3)
+    let codes : codesHeld (loadOf text .node) ≡ map (map instruction) (p .codes) = ap codesHeld (r .1) ∙ plan-codes p (r .2) in
+    let starts : startsHeld (loadOf text .node) ≡ map asStart (p .starts) = ap startsHeld (r .1) ∙ starts-of p (length (p .codes)) (r .4) in
+    ap (λ (l : List (List Instruction)). planText l (startsHeld (loadOf text .node))) codes ∙ ap (planText (map (map instruction) (p .codes))) starts ∙ sym (r .3)
 
 pub one-text : OneText
 one-text s t codes starts h g =
     sym (loaded-writes s (h .number))
-    ∙ ap (λ (l : List (List Instruction)). planText l (rowIn (loadOf s .node))) (h .behaviours ∙ sym (g .behaviours))
-    ∙ ap (planText (guarantees.codesIn (loadOf t .node))) (h .row ∙ sym (g .row))
+    ∙ ap (λ (l : List (List Instruction)). planText l (startsHeld (loadOf s .node))) (h .behaviours ∙ sym (g .behaviours))
+    ∙ ap (planText (codesHeld (loadOf t .node))) (h .row ∙ sym (g .row))
     ∙ loaded-writes t (g .number)
 
 -- ---- 31
 
-loaded-passes : (text : List ℕ) → loadOf text .number ≡ 0 → So (planSound (guarantees.codesIn (loadOf text .node)) (rowIn (loadOf text .node)))
+loaded-passes : (text : List ℕ) → loadOf text .number ≡ 0 → So (planSound (codesHeld (loadOf text .node)) (startsHeld (loadOf text .node)))
 unfolding planSound
 loaded-passes text e =
     let r = load-written text e in
@@ -118,16 +116,16 @@ loaded-passes text e =
     let whole = parts-of n (loaded-sound text) in
     let size : length (p .codes) ≡ length (behavioursOf n) =
     sym (ap length (ap behavioursOf (r .1) ∙ behaviours-of p (r .2)) ∙ length-map (p .codes) (map instruction)) in
-    let row : rowIn n ≡ map asStart (p .starts) = ap rowIn (r .1) ∙ starts-of p (length (p .codes)) (r .4) in
-    let fits : So (startsSound (length (behavioursOf n)) (rowIn n)) =
-    subst (λ (c : ℕ). So (startsSound c (rowIn n))) size (subst (λ (l : List Start). So (startsSound (length (p .codes)) l)) (sym row) (r .4)) in
-    subst (λ (codes : List (List Instruction)). So (leb 1 (length codes) && leb (length codes) 8 && allOf (codeSound (length codes)) codes && startsSound (length codes) (rowIn n)))
+    let row : startsHeld n ≡ map asStart (p .starts) = ap startsHeld (r .1) ∙ starts-of p (length (p .codes)) (r .4) in
+    let fits : So (startsSound (length (behavioursOf n)) (startsHeld n)) =
+    subst (λ (c : ℕ). So (startsSound c (startsHeld n))) size (subst (λ (l : List Start). So (startsSound (length (p .codes)) l)) (sym row) (r .4)) in
+    subst (λ (codes : List (List Instruction)). So (leb 1 (length codes) && leb (length codes) 8 && allOf (codeSound (length codes)) codes && startsSound (length codes) (startsHeld n)))
     (sym (node-codes n)) (both (both (whole .few) (whole .codes)) fits)
 
 holds-sound : (text : List ℕ) (codes : List (List Instruction)) (starts : List Start) → Holds text codes starts → So (planSound codes starts)
 holds-sound text codes starts h =
     subst (λ (l : List Start). So (planSound codes l)) (h .row)
-    (subst (λ (l : List (List Instruction)). So (planSound l (rowIn (loadOf text .node)))) (h .behaviours) (loaded-passes text (h .number)))
+    (subst (λ (l : List (List Instruction)). So (planSound l (startsHeld (loadOf text .node)))) (h .behaviours) (loaded-passes text (h .number)))
 
 -- told of a plan that passes: 30, or 0
 passes-told : (codes : List (List Instruction)) (starts : List Start) (old : List ℕ) → So (planSound codes starts) → writeTold codes starts old .number ≡ notSound → ⊥

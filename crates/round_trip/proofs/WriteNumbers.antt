@@ -27,12 +27,9 @@ use Rattle.text.specs.Values.{noValue, readAs, plusOf, minusOf, intOf, rangedVa
 use Rattle.text.specs.Writing.{digits, intText}
 use Rattle.text.proofs.Digits.{digits-one, digits-more}
 use Rattle.text.proofs.Parts.{equal-true, equal-self, starts-front}
+use Rattle.round_trip.proofs.ReadNumbers.{digit-bounds}
 
 -- ---- digits
-digit-bounds : (b : ℕ) → So (isDigit b) → (48 ≤ b) × (b ≤ 57)
-unfolding isDigit
-digit-bounds b h = let w = parts (leb 48 b) (leb b 57) h in (leb-true 48 b (w .0), leb-true b 57 (w .1))
-
 -- one digit more
 digits-step : (n b : ℕ) → 1 ≤ n → 48 ≤ b → b ≤ 57 → digits (n * 10 + digitValue b) ≡ digits n ++ (b ∷ [])
 digits-step n b h g k =

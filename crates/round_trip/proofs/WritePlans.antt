@@ -135,14 +135,14 @@ module _ (c : ℕ) (few : c ≤ 255) where
 
 -- ---- the whole
 
-abbrev codesOf : Plan → List (List Instruction)
-codesOf p = map (map instruction) (p .codes)
+abbrev planCodes : Plan → List (List Instruction)
+planCodes p = map (map instruction) (p .codes)
 
-abbrev startsOf : Plan → List Start
-startsOf p = map asStart (p .starts)
+abbrev planStarts : Plan → List Start
+planStarts p = map asStart (p .starts)
 
 abbrev RowsOf : Left → Plan → Type 0
-RowsOf l p = (l .text .whole ≡ planRows (codesOf p) (startsOf p)) × (l .text .rest ≡ []) × So (startsSound (length (p .codes)) (startsOf p))
+RowsOf l p = (l .text .whole ≡ planRows (planCodes p) (planStarts p)) × (l .text .rest ≡ []) × So (startsSound (length (p .codes)) (planStarts p))
 
 pub rows-written : (l : Left) {p : Plan} {k : Left} → planLines l ≡ good p k
     → (l .text .whole ≡ planRows (map (map instruction) (p .codes)) (map asStart (p .starts))) × (l .text .rest ≡ [])
@@ -174,13 +174,13 @@ pub text-written : (text : List ℕ) {p : Plan} {k : Left} → planLines (record
 unfolding planText
 text-written text {p} e =
     let w = rows-written (record { text = linesOf text; first = 1 }) e in
-    sym (lines-written text) ∙ (λ i. each ended (w .0 i) ++ w .1 i) ∙ append-nil (each ended (planRows (codesOf p) (startsOf p)))
+    sym (lines-written text) ∙ (λ i. each ended (w .0 i) ++ w .1 i) ∙ append-nil (each ended (planRows (planCodes p) (planStarts p)))
 
 -- ---- a load
 
 abbrev WrittenAs : List ℕ → Loaded → Type 0
 WrittenAs text r =
-    r .number ≡ 0 → (p : Plan) × (r .node ≡ nodeOf p) × PlanKept p × (text ≡ planText (codesOf p) (startsOf p)) × So (startsSound (length (p .codes)) (startsOf p))
+    r .number ≡ 0 → (p : Plan) × (r .node ≡ nodeOf p) × PlanKept p × (text ≡ planText (planCodes p) (planStarts p)) × So (startsSound (length (p .codes)) (planStarts p))
     × (misplaced (nodeOf p) ≡ 0)
 
 refused-written : (text : List ℕ) (k line : ℕ) → 1 ≤ k → WrittenAs text (refusedLoad k line)

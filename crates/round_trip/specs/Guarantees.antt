@@ -1,4 +1,5 @@
 -- The guarantees on plans that are written (document 02, M-103). Each is proved in proofs/RoundTrips.antt under the name beside it.
+--   codesHeld n  startsHeld n   what a writer takes of the node that a load gave
 --   Holds text codes starts   plan text that is accepted, with these behaviours and these starts
 --   WrittenLoads  written-loads   "Loading that text gives the same behaviours and starts"
 --   LoadedWrites  loaded-writes   "writing a loaded plan gives its very bytes"
@@ -21,18 +22,17 @@ use Rattle.plan.specs.Plans.{loadOf}
 use Rattle.plan_writer.specs.Answers.{codesOf, planSound, writeTold}
 use Rattle.plan_writer.specs.Texts.{longestPlan, planText}
 
--- what a writer takes of the node that a load gave
-abbrev pub codesIn : Node → List (List Instruction)
-codesIn n = codesOf (nodeBehaviours n)
+abbrev pub codesHeld : Node → List (List Instruction)
+codesHeld n = codesOf (nodeBehaviours n)
 
-abbrev pub rowIn : Node → List Start
-rowIn n = startsIn (nodeStarts n)
+abbrev pub startsHeld : Node → List Start
+startsHeld n = startsIn (nodeStarts n)
 
 pub record Holds (text : List ℕ) (codes : List (List Instruction)) (starts : List Start) : Type 0 where
   pub number : loadOf text .number ≡ 0
   pub line : loadOf text .line ≡ 0
-  pub behaviours : codesIn (loadOf text .node) ≡ codes
-  pub row : rowIn (loadOf text .node) ≡ starts
+  pub behaviours : codesHeld (loadOf text .node) ≡ codes
+  pub row : startsHeld (loadOf text .node) ≡ starts
 
 abbrev pub WrittenLoads : Type 0
 WrittenLoads =
@@ -42,7 +42,7 @@ WrittenLoads =
 abbrev pub LoadedWrites : Type 0
 LoadedWrites =
     (text : List ℕ) → loadOf text .number ≡ 0 →
-    planText (codesIn (loadOf text .node)) (rowIn (loadOf text .node)) ≡ text
+    planText (codesHeld (loadOf text .node)) (startsHeld (loadOf text .node)) ≡ text
 
 -- for every buffer
 abbrev pub ToldExactly : Type 0

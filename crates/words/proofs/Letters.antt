@@ -3,7 +3,7 @@
 --   left-letter                one letter more is written
 --   letters-packed             the letters of a word's number are the word
 --   packed-at packed-past      the number of a word in a table of words, and past it
-use mathlib.Core.Bool.{true, false, So, _&&_}
+use mathlib.Core.Bool.{So}
 use mathlib.Core.List.{List, [], _∷_, map}
 use mathlib.Core.Path.{_≡_, refl, sym, _∙_, ap}
 use Prim.Native.Nat.{ℕ, zero, suc, _+_, _-_, _*_, _/_, _%_, _≤_, _<_}

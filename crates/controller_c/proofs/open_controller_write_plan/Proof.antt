@@ -44,7 +44,8 @@ returns-3 c =
     let second = test2 .before .before in
     let test = second .before in
     let first = test .before .before in
-    written-back _ _ _ (first .load .ensures) (test .if1 .left) (second .load2 .ensures) (test2 .if2 .left) (codes .behaviours .ensures) (row .starts .ensures) (wrote .write-plan .ensures) (c .written-number .ensures)
+    written-back _ _ _ (first .load .ensures) (test .if1 .left) (second .load2 .ensures) (test2 .if2 .left)
+    (codes .behaviours .ensures) (row .starts .ensures) (wrote .write-plan .ensures) (c .written-number .ensures)
 
 pub open-controller-write-plan-spec : {M : Type 1} → statement M
 open-controller-write-plan-spec =

@@ -3,7 +3,7 @@ use mathlib.Core.Path.{ap, _∙_}
 use borrow.Author.Needs.{needs}
 use Rattle.plan_writer.specs.Texts.{opRow}
 use Rattle.plan_writer.proofs.Laws.{op-word-text}
-use Rattle.text.proofs.Writing.{wrote-length, _▸_, wrote-as}
+use Rattle.text.proofs.Writing.{_▸_, wrote-as}
 use Rattle.rules.specs.Behaviours.{instruction}
 use Rattle.words.specs.Words.{letters}
 use Rattle.plan_writer.proofs.put_op.Statement.{statement}

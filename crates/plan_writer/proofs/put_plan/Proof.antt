@@ -38,7 +38,9 @@ put-number-line-requires-2 c κs = search needs
 
 put-starts-requires : tie.Need-put-starts-requires
 put-starts-requires c κs =
-    let start = c .before .before .before .before .before .before .before .before .before .before .before .before .before .before .before .before .before .before .before .before .before .before .before .before in
+    let codes = c .before .before .before .before .before .before .before .before .before in
+    let first = codes .before .before .before .before .before .before .before .before .before in
+    let start = first .before .before .before .before .before .before in
     starts-within (start .args .behaviours) (start .args .starts) (start .pre)
 
 returns : tie.Need-returns

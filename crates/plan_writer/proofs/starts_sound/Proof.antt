@@ -1,7 +1,6 @@
 -- `starts_sound` tests the starts one by one. The invariant: those that are left decide. Assumes nothing.
 use mathlib.Core.Path.{_≡_}
 use Prim.Native.Nat.{_≤_, _-_}
-use native.Mathlib.Omega.{arith}
 use borrow.Author.Needs.{needs}
 use lib.ListN.{drop}
 use Rattle.node.specs.Starts.{startsIn}
