@@ -137,7 +137,7 @@ pub fn op_word(number: u8) -> u64
     NO_WORD
 }
 
-// The word of a clause's kind, `any` being the first; no word past the last. The kind of one exact value has none, and is not asked for.
+// The word of a clause's kind; no word past the last. The kind of one exact value, which has none, is read as `any`.
 pub fn kind_word(kind: u8) -> u64
     ensures { λ r. ⌜ r ≡ packed (getD clauseWords (kind - anyKind) []) ⌝ }
 {
