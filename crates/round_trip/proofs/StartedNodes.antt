@@ -18,19 +18,19 @@ use lib.Seq.{getD-set-other, length-sets, sets, sets-eq, take-append-seam}
 use Rattle.node.specs.declared.BehaviourNumber.{BehaviourNumber}
 use Rattle.node.specs.declared.Node.{Node}
 use Rattle.node.specs.declared.Process.{Process}
-use Rattle.node.specs.declared.Start as node
+use Rattle.node.specs.declared.Start.{Start}
 use Rattle.node.specs.declared.Value.{Value}
 use Rattle.node.specs.Processes.{fresh, unborn}
 use Rattle.node.specs.Starts.{liveFrom, noStart, nodeStarts, rowOf, startIf, startOf, startsIn}
 use Rattle.node.specs.Values.{intZero}
 use Rattle.node.proofs.Lists.{firsts-take}
 use Rattle.rules.proofs.All.{parts}
-use Rattle.plan_line.specs.declared.Start.{Start}
+use Rattle.plan_line.specs.declared.Start.{Start as ReadStart}
 use Rattle.plan.specs.Plans.{emptyNode, nodeOf, Plan, withCode, withEach, withStart}
 use Rattle.plan.proofs.Sound.{each-keeps}
 use Rattle.plan_writer.specs.Answers.{startFits, startsRise, startsSound}
 
-abbrev pub asStart : Start → node.Start
+abbrev pub asStart : ReadStart → Start
 asStart s = record { process = s .process; behaviour = s .behaviour }
 
 -- ---- live processes
@@ -56,11 +56,11 @@ module _ (b : BehaviourNumber) (v : Value) where
   live-set i (p ∷ ps) (suc k) l h =
       let e : i + 1 + k ≡ i + suc k = omega arith in
       let here = startIf (p .stage) (startOf i p) in
-      ap (λ (x : List node.Start). here ++ x) (live-set (i + 1) ps k (le-of-suc-le-suc l) (λ j g. h (suc j) (omega arith)))
+      ap (λ (x : List Start). here ++ x) (live-set (i + 1) ps k (le-of-suc-le-suc l) (λ j g. h (suc j) (omega arith)))
       ∙ sym (append-assoc here (liveFrom (i + 1) ps) (startOf (i + 1 + k) (fresh b v) ∷ []))
       ∙ ap (λ (j : ℕ). here ++ liveFrom (i + 1) ps ++ (startOf j (fresh b v) ∷ [])) e
 
-starts-live : (c last : ℕ) (n : Node) (starts : List Start) → length (n .processes) ≡ 16 → UnbornFrom last (n .processes) → So (startsRise c last (map asStart starts))
+starts-live : (c last : ℕ) (n : Node) (starts : List ReadStart) → length (n .processes) ≡ 16 → UnbornFrom last (n .processes) → So (startsRise c last (map asStart starts))
     → liveFrom 1 (withEach withStart n starts .processes) ≡ liveFrom 1 (n .processes) ++ map asStart starts
 unfolding startsRise
 starts-live c last n [] size free h = sym (append-nil (liveFrom 1 (n .processes)))
@@ -75,13 +75,13 @@ starts-live c last n (s ∷ starts) size free h =
     let e : 1 + (k - 1) ≡ k = omega arith in
     starts-live c k (withStart n s) starts (length-set ps (k - 1) p ∙ size)
     (λ j g. getD-set-other ps (k - 1) j p unborn (λ q. omega (arith, q, g, low)) ∙ free j (omega arith)) (w .1)
-    ∙ ap (λ (l : List node.Start). l ++ map asStart starts) (live-set (s .behaviour) intZero 1 ps (k - 1) (omega (arith, size)) (λ j g. free j (omega arith)))
+    ∙ ap (λ (l : List Start). l ++ map asStart starts) (live-set (s .behaviour) intZero 1 ps (k - 1) (omega (arith, size)) (λ j g. free j (omega arith)))
     ∙ append-assoc (liveFrom 1 ps) (startOf (1 + (k - 1)) p ∷ []) (map asStart starts)
     ∙ ap (λ (j : ℕ). liveFrom 1 ps ++ (startOf j p ∷ map asStart starts)) e
 
 -- ---- the row
 
-row-starts : (l : List node.Start) → length l ≤ 16 → startsIn (rowOf l) ≡ l
+row-starts : (l : List Start) → length l ≤ 16 → startsIn (rowOf l) ≡ l
 row-starts l h =
     let blank = replicate 16 noStart in
     firsts-take noStart (length l) (sets blank 0 l) (omega (arith, h, length-sets blank 0 l))
@@ -97,4 +97,4 @@ starts-of p c h =
     let w = parts (leb 1 (length l) && leb (length l) 16) (startsRise c 0 l) h in
     let few = leb-true (length l) 16 (parts (leb 1 (length l)) (leb (length l) 16) (w .0) .1) in
     let live = starts-live c 0 coded (p .starts) (ap length none) free (w .1) ∙ ap (λ (ps : List Process). liveFrom 1 ps ++ l) none in
-    ap (λ (x : List node.Start). startsIn (rowOf x)) live ∙ row-starts l few
+    ap (λ (x : List Start). startsIn (rowOf x)) live ∙ row-starts l few

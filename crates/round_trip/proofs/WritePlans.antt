@@ -20,7 +20,7 @@ use Rattle.rules.specs.Behaviours.{Instruction, instruction}
 use Rattle.rules.proofs.All.{both, parts}
 use Rattle.text.specs.Parts.{Lines, lineThen, linesOf}
 use Rattle.text.specs.Writing.{each}
-use Rattle.plan_line.specs.declared.Start.{Start as StartRead}
+use Rattle.plan_line.specs.declared.Start.{Start as ReadStart}
 use Rattle.plan_line.specs.Lines.{behavioursKey, codeKey, startsKey, header, headerLine, countLine, opLine, startLine}
 use Rattle.plan.specs.declared.Loaded.{Loaded}
 use Rattle.plan.specs.Plans.{Plan, beforeFirst, lastFrom, more, startMore, codeLines, startLines, planLines, misplaced, nodeOf, refusedLoad, textTooLong, illPlaced, checked, loadedFrom, loadOf}
@@ -108,7 +108,7 @@ module _ (c : ℕ) (few : c ≤ 255) where
 
   -- ---- starts
 
-  rise-more : (i : ProcessNumber) (xs : List StartRead) (s : StartRead) → So (startsRise c (i .0) (map asStart xs)) → So (startFits c (lastFrom i xs .0) (asStart s))
+  rise-more : (i : ProcessNumber) (xs : List ReadStart) (s : ReadStart) → So (startsRise c (i .0) (map asStart xs)) → So (startFits c (lastFrom i xs .0) (asStart s))
       → So (startsRise c (i .0) (map asStart (xs ++ (s ∷ []))))
   unfolding startsRise
   rise-more i [] s h g = both g refl
@@ -116,14 +116,14 @@ module _ (c : ℕ) (few : c ≤ 255) where
       let w = parts (startFits c (i .0) (asStart x)) (startsRise c (x .process .0) (map asStart xs)) h in
       both (w .0) (rise-more (x .process) xs s (w .1) g)
 
-  starts-written : (l : Left) {starts : List StartRead} {k : Left} → startLines c l ≡ good starts k
+  starts-written : (l : Left) {starts : List ReadStart} {k : Left} → startLines c l ≡ good starts k
       → Took l (numbered startsKey (length (map asStart starts)) ∷ map startRow (map asStart starts)) k × So (startsSound c (map asStart starts))
   unfolding startLines startsRise
   starts-written l {starts} {k} e =
       let w = then-good (onLine (countLine startsKey 1 16) l) (λ (n : ℕ) (r : Left). times n (startMore c) [] r) e in
       let n = w .0 in
       let size = count-read startsKey 1 16 l (w .2) in
-      let line : List StartRead → List ℕ → Answer StartRead = λ ss. startLine c (lastFrom beforeFirst ss) in
+      let line : List ReadStart → List ℕ → Answer ReadStart = λ ss. startLine c (lastFrom beforeFirst ss) in
       let rows = lines-took asStart startRow line (λ ss r s g. start-written c (lastFrom beforeFirst ss) r few g .0) n (w .1) (w .3) in
       let rise = times-good (λ ss. onLine (line ss)) (λ ss r. So (startsRise c 0 (map asStart ss)))
       (λ ss r s q g h. let read = line-good (line ss) r g in rise-more beforeFirst ss s h (start-written c (lastFrom beforeFirst ss) (read .0) few (read .1) .2)) n (w .1) (w .3) refl in
