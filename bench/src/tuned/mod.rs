@@ -1,6 +1,6 @@
-//! Document 01 with M-100 to M-102 in plain Rust that is written for speed: the yardstick of the proved library. One node is changed in place and
-//! nothing is allocated; each call looks at the same refusals in the same order as the proved one. The search of a recv is document 01's:
-//! messages in mailbox order and, for each, clauses in their order.
+//! Document 01 with M-100 to M-102 and M-104 in plain Rust that is written for speed: the yardstick of the proved library. One node is changed in
+//! place and nothing is allocated; each call looks at the same refusals in the same order as the proved one. The search of a recv is document
+//! 01's: messages in mailbox order and, for each, clauses in their order.
 
 pub mod listing;
 pub mod plan;

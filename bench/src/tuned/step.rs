@@ -21,10 +21,11 @@ enum Refusal {
     RunOfGone = 22,
     NoneInFlight = 23,
     MailboxFull = 24,
-    NoFit = 25,
+    MailboxEmpty = 25,
     PairFull = 26,
     NotUnborn = 27,
     NoTimeout = 28,
+    NoFit = 29,
 }
 
 impl Node {
@@ -365,7 +366,9 @@ impl Process {
     #[inline]
     fn receive(&mut self, behaviour: &Behaviour, count: u8) -> Result<(), Refusal> {
         let next = usize::from(self.place) + 1;
-        let (k, clause) = self.first_fit(&behaviour.patterns[next..][..usize::from(count)]).ok_or(Refusal::NoFit)?;
+        let Some((k, clause)) = self.first_fit(&behaviour.patterns[next..][..usize::from(count)]) else {
+            return Err(if self.count == 0 { Refusal::MailboxEmpty } else { Refusal::NoFit });
+        };
         // The n ops behind the recv of a sound node are clauses.
         let Op::Clause(r, s, target) = behaviour.ops[next + clause] else { return Err(Refusal::NoFit) };
         let message = self.message(k);

@@ -71,7 +71,11 @@ fn steps() {
 // A step of process 1, which stands at a stop.
 fn one_step(name: &[u8], kind: u8, from: u8) {
     show::title(name);
-    let n = stopping();
+    stepped(stopping(), kind, from);
+}
+
+// What a step of process 1 tells, and the node then.
+pub(crate) fn stepped(n: Node, kind: u8, from: u8) {
     let s = Step {
         kind,
         owner: ProcessNumber(1),
@@ -264,7 +268,7 @@ fn suggested(name: &[u8], plan: &[u8], steps: &[u8]) {
 }
 
 // The step that is suggested, and its refusal when it is taken.
-fn suggest(n: Node) {
+pub(crate) fn suggest(n: Node) {
     let s = engine::suggest(n);
     match s {
         Suggestion::Unsound => {

@@ -8,6 +8,7 @@ mod limits;
 mod lists;
 mod parts;
 mod plays;
+mod receives;
 mod refused;
 mod show;
 mod texts;
@@ -23,6 +24,7 @@ fn main() {
     limits::all();
     watches::all();
     timeouts::all();
+    receives::all();
     calls::all();
     plays::all();
     texts::all();

@@ -145,7 +145,7 @@ fn first() {
 }
 
 // A play of numbers, and of the step records that they stand for.
-fn both_ways(n: Node, numbers: &[u32]) {
+pub(crate) fn both_ways(n: Node, numbers: &[u32]) {
     show::told(n, numbers);
     let s = steps::play_lent(n, numbers);
     show::two(b"lent=", s.accepted as u64, s.refusal as u64);

@@ -272,6 +272,15 @@ table =
     ∷ refusing (world waiter (Plain (int 5) ∷ Plain (Atom 7) ∷ []) 1 1 []) (timeout 1) 28
     ∷ refusing (world (rower 3 intZero intZero false unlinkedLinks) [] 1 1 []) (timeout 1) 28
     ∷ refusing (world over [] 1 1 []) (timeout 1) 28
+    -- a recv with no mail: 25; with a value that does not fit, 1 or 16 times, a note, a down: 29
+    ∷ refusing (world waiter [] 1 1 []) (run 1) 25
+    ∷ refusing (world waiter (fives 1) 1 1 []) (run 1) 29
+    ∷ refusing (world waiter (fives 16) 1 1 []) (run 1) 29
+    ∷ refusing (world waiter (Note (record { 0 = 2 }) kill ∷ []) 1 1 []) (run 1) 29
+    ∷ refusing (world waiter (DownMessage (record { 0 = 2 }) (Atom 9) ∷ []) 1 1 []) (run 1) 29
+    -- with a7, which fits, behind i5, which does not: a7 leaves
+    ∷ playing (world waiter (Plain (int 5) ∷ Plain (Atom 7) ∷ []) 1 1 []) (run 1 ∷ []) 1 0
+    (holding 1 (Plain (Atom 7)) (world (withPlace (rower 6 (Atom 7) intZero false unlinkedLinks) 3) (fives 1) 1 1 []))
     -- the sample plan, after run=1 three times, arrive=2,1, run=2
     ∷ playing started sampleActions 5 0
     (holding 16 (Plain (int 12)) (sample (withPlace (rower 1 (pid 2) (int 12) false unlinkedLinks) 3) (withPlace (rower 2 (int 12) intZero false unlinkedLinks) 2)))
@@ -314,6 +323,6 @@ no-steps n h = rw h
 pub ramp : All table
 unfolding All Holds table arrival running refusing plain rower closed over world holding fives sender spawner watcher monitorer waiter flying unlinkedLinks linkTwo linkThree linkTwoThree sample started ramp-ops opOf play played step rule ready commit incoming decide numbered ownerBorn signalWaits pairHasRoom numberFree sound shaped viewSound view behavioursOf code setOf has bitsOf standing runningSound rowSound receives fits runs runsLive runsOp closes expires expiresLive atAfter arrives exits downs operand instruction operandInRange inRange hasClauses targetsFree wellPlaced codeSound isNumber fitsInt sameValue messages signals changed joined left popped emptied register withRegister moved advanced trapped linksTo linked unlinked watchesOver watching unwatching watched unwatched withPeer withoutPeer lowestPeer ended gone kindsOf
 ramp =
-    let last : All (drop 35 table) = (refl, (refl, (refl, (refl, (refl, tt))))) in
+    let last : All (drop 35 table) = (refl, (refl, (refl, (refl, (refl, (refl, (refl, (refl, (refl, (refl, (refl, tt))))))))))) in
     let others : All (drop 16 table) = (refl, (refl, (refl, (refl, (refl, (refl, (refl, (refl, (refl, (refl, (refl, (refl, (refl, (refl, (refl, (refl, (refl, (refl, (refl, last))))))))))))))))))) in
     (no-steps, (sample-program, (refl, (refl, (refl, (refl, (refl, (refl, (refl, (refl, (refl, (refl, (refl, (refl, (refl, (refl, others))))))))))))))))

@@ -30,7 +30,7 @@ use Rattle.node.specs.Ops.{recvOp}
 use Rattle.node.specs.Processes.{register, advanced, linksTo, linked, unlinked, watchesOver, watching, unwatching}
 use Rattle.node.specs.Sets.{lowestPeer}
 use Rattle.node.specs.Values.{normal, kill, badarg, badarith, pid, fitsInt, sameValue}
-use Rattle.rules.specs.Answers.{Answer, refused, done, need, mailboxFull, noFit, noTimeout}
+use Rattle.rules.specs.Answers.{Answer, refused, done, need, mailboxFull, mailboxEmpty, noTimeout}
 use Rattle.rules.specs.Arrive.{joinsWith, exits, downs, takes, isMonitor, answers, arrivesIn, arrives}
 use Rattle.rules.specs.Effects.{State, joining, Effect, becomes, ends, sends}
 use Rattle.rules.specs.Receive.{receives}
@@ -323,7 +323,7 @@ abbrev pub Only : Decision → Type 0
 Only e = (e .refusal ≡ 0) × (e .joins ≡ false) × (e .sends ≡ false) × (e .spawns ≡ false)
 
 only-searching : (st : State) (a : Answer Effect) → decisionOf st a .receives ≡ true → Only (decisionOf st a)
-only-searching st (refused k) h = go (eqb k noFit) h
+only-searching st (refused k) h = go (eqb k mailboxEmpty) h
   where
     go : (b : Bool) → cond b (searching (st .process)) (refusing (st .process) k) .receives ≡ true → Only (cond b (searching (st .process)) (refusing (st .process) k))
     go true e = (refl, refl, refl, refl)

@@ -38,7 +38,7 @@ use Rattle.node.specs.Mailboxes.{noMessage}
 use Rattle.node.specs.Nodes.{noOp, noProcess}
 use Rattle.node.specs.Processes.{fresh}
 use Rattle.node.specs.Values.{intZero, pid, fitsInt}
-use Rattle.rules.specs.Answers.{Answer, refused, done, noFit, noTimeout}
+use Rattle.rules.specs.Answers.{Answer, refused, done, mailboxEmpty, noTimeout}
 use Rattle.rules.specs.Arrive.{arrives}
 use Rattle.rules.specs.Effects.{State, MailChange, unchanged, joining, leaving, Sending, Birth, Effect}
 use Rattle.rules.specs.Receive.{receives}
@@ -102,9 +102,9 @@ joinedBy unchanged = none
 joinedBy (joining x) = some x
 joinedBy (leaving k) = none
 
--- "recv without a fit": where no message was looked at, 25 says that the mailbox is still to be searched
+-- a run is told without its messages (`unread` with none): there 25 says that the mailbox is still to be searched
 abbrev pub decisionOf : State → Answer Effect → Decision
-decisionOf st (refused k) = cond (eqb k noFit) (searching (st .process)) (refusing (st .process) k)
+decisionOf st (refused k) = cond (eqb k mailboxEmpty) (searching (st .process)) (refusing (st .process) k)
 decisionOf st (done x) = tells 0 (x .process) false (joinedBy (x .mail)) (x .sent) (x .born)
 
 abbrev pub says : Process → ℕ → (State → Answer Effect) → Decision

@@ -19,7 +19,6 @@ use decisions::birth_refusal;
 use decisions::decide;
 use decisions::pair_refusal;
 use node::Cell;
-use node::NO_FIT;
 use node::NOT_SOUND;
 use node::Node;
 use node::Process;
@@ -30,6 +29,7 @@ use node::Step;
 use node::Value;
 use node::fallen;
 use node::risen;
+use receive::Found;
 
 // What a play tells: how many steps were accepted, the refusal that ended it (0 if none), and the node then. The node stands first: with
 // no gap before it, the compiler leaves out copies of it.
@@ -226,35 +226,36 @@ fn core(n: Node, numbers: &[u32], looks: bool) -> Played
         let mut m = first;
         let mut top = first;
         if e.receives {
-            refusal = NO_FIT;
-            top = first + up_to(waiting, 16);
+            let count = up_to(waiting, 16);
+            top = first + count;
             let end = clauses_end(x, op.small);
-            'messages: while m < top {
-                let slot = node.slots[m];
-                let message = slot.message;
+            let mut found = Found::Silent;
+            let mut slot = first;
+            'messages: while slot < top {
+                let held = node.slots[slot];
+                let message = held.message;
+                found = Found::Unfit;
                 let mut c = x + 1;
                 while c < end {
                     let clause = node.ops[c];
                     if receive::fits(clause, message) {
-                        next = receive::taken(p, clause, message);
-                        refusal = 0;
+                        found = Found::Fit(slot - first, clause, message);
                         break 'messages;
                     }
                     c += 1;
                 }
-                m += 1;
+                slot += 1;
             }
             if s.expires {
                 let y = at_most(end, 255);
                 let behind = node.ops[y];
                 next = p.moved(behind.target);
-                refusal = receive::timeout_refusal(
-                    refusal,
-                    p.place,
-                    op.small,
-                    node.lens[w],
-                    behind,
-                );
+                refusal = receive::timeout_refusal(found, p.place, op.small, node.lens[w], behind);
+                m = top;
+            } else {
+                next = receive::after_search(p, found);
+                refusal = receive::search_refusal(found);
+                m = first + receive::fit_index(found, count);
             }
         }
         if e.sends {

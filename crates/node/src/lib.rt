@@ -231,13 +231,15 @@ pub const NONE_IN_FLIGHT: u8 = 23;
 
 pub const MAILBOX_FULL: u8 = 24;
 
-pub const NO_FIT: u8 = 25;
+pub const MAILBOX_EMPTY: u8 = 25;
 
 pub const PAIR_FULL: u8 = 26;
 
 pub const NOT_UNBORN: u8 = 27;
 
 pub const NO_TIMEOUT: u8 = 28;
+
+pub const NO_FIT: u8 = 29;
 
 // What the caller is told: the output is shorter than what is to be written, the node is not sound, the schedule has too many steps.
 pub const OUTPUT_SHORT: u8 = 30;

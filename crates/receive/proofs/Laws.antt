@@ -1,10 +1,10 @@
 -- A clause's kind, one law for each answer of `fits`; the turns of a search: over the messages that are left, and for one message over
--- the clauses that are left; and a process at a recv, by its stage. Assumes nothing.
+-- the clauses that are left; its answer, by the first fit; and a process at a recv, by its stage. Assumes nothing.
 use mathlib.Core.Bool.{true, false, _&&_}
-use mathlib.Core.List.{List, _∷_}
+use mathlib.Core.List.{List, [], _∷_}
 use mathlib.Core.Option.{Option, none, some}
-use mathlib.Core.Path.{_≡_, _∙_, sym, ap}
-use Prim.Native.Nat.{ℕ, _+_, _<_, _≤_}
+use mathlib.Core.Path.{_≡_, refl, _∙_, sym, ap}
+use Prim.Native.Nat.{ℕ, zero, suc, _+_, _<_, _≤_}
 use native.Mathlib.Numerals.{add-one}
 use borrow.Author.Tests.{ne-eqb}
 use lib.Dec.{eqb, ltb}
@@ -17,8 +17,9 @@ use Rattle.node.specs.declared.Stage.{Stage}
 use Rattle.node.specs.Nodes.{noOp}
 use Rattle.node.specs.Ops.{recvOp}
 use Rattle.node.specs.Values.{exactKind, anyKind, messageKind}
-use Rattle.rules.specs.Receive.{Fit, isValue, fits, firstClause, search}
+use Rattle.rules.specs.Receive.{Fit, isValue, fits, firstClause, search, Searched, silent, unfit, fit, answered}
 use Rattle.rules.specs.Timeout.{isLive}
+use Rattle.receive.specs.Found.{fitIndex}
 use Rattle.receive.specs.Waiting.{awaits}
 
 -- ---- a clause's kind: one law for each answer of `fits`
@@ -55,6 +56,29 @@ module _ (cs : List Op) (i k : ℕ) (m : Message) (later : Option Fit) {g : Opti
 
   pub clause-end : length cs ≤ k → g ≡ firstClause (drop k cs) i m later → g ≡ later
   clause-end h e = e ∙ rw (drop-of-length-le cs {i = k} h)
+
+-- ---- the answer of a search, by the first fit
+
+-- k messages were looked at, and none fits
+abbrev pub soFar : ℕ → Searched
+soFar zero = silent
+soFar (suc k) = unfit
+
+-- no message leaves
+pub soFar-index : (k j : ℕ) → fitIndex k (soFar j) ≡ k
+soFar-index k zero = refl
+soFar-index k (suc j) = refl
+
+module _ (ms : List Message) {f : Option Fit} where
+  pub answered-none : f ≡ none → answered f ms ≡ soFar (length ms)
+  answered-none e = rw e (go ms)
+    where
+      go : (ms : List Message) → answered none ms ≡ soFar (length ms)
+      go [] = refl
+      go (m ∷ ms) = refl
+
+  pub answered-fit : {x : Fit} → f ≡ some x → answered f ms ≡ fit x
+  answered-fit e = rw e
 
 -- ---- a process at a recv
 

@@ -1,15 +1,17 @@
-// Receiving: which message a clause takes, what a process makes of it, and giving up. The search itself is part of the engine's loop, which
-// reads messages and clauses where they stand.
+// Receiving: which message a clause takes, what the search of a mailbox answers and what a process makes of it, and giving up. The loop of the
+// search is part of the engine's, which reads messages and clauses where they stand; all that follows from it is told by its answer, here.
 ghost use mathlib.Core.Bool.{_&&_};
 ghost use mathlib.Core.Path.{_≡_};
 ghost use lib.Dec.{eqb, ltb};
 ghost use Rattle.node.specs.Ops.{recvOp};
 ghost use Rattle.node.specs.Processes.{moved};
-ghost use Rattle.rules.specs.Receive.{isValue, fits, withSender, withMessage};
-ghost use Rattle.receive.specs.Waiting.{awaits, timeoutRefusal};
+ghost use Rattle.rules.specs.Receive.{isValue, fits, withSender, withMessage, searchNumber};
+ghost use Rattle.receive.specs.Found.{foundOf, afterSearch, fitIndex};
+ghost use Rattle.receive.specs.Waiting.{awaits, isFit, timeoutRefusal};
 use node::AFTER;
 use node::ANY;
 use node::EXACT;
+use node::MAILBOX_EMPTY;
 use node::Message;
 use node::NO_FIT;
 use node::NO_TIMEOUT;
@@ -21,8 +23,49 @@ use node::Stage;
 use node::Value;
 use node::same_value;
 
+// What the search of a mailbox answers: no message is there, none of its messages fits, or the first fit, with the index of the message and the
+// clause that takes it.
+pub enum Found {
+    Silent,
+    Unfit,
+    Fit(usize, Op, Message),
+}
+
+// 25, 29, or 0.
+pub fn search_refusal(found: Found) -> u8
+    ensures { λ r. ⌜ r ≡ searchNumber (foundOf found) ⌝ }
+{
+    match found {
+        Found::Silent => MAILBOX_EMPTY,
+        Found::Unfit => NO_FIT,
+        Found::Fit(_, _, _) => 0,
+    }
+}
+
+// Process p behind a recv whose search answered `found`; as it was where nothing fits.
+pub fn after_search(p: Process, found: Found) -> Process
+    ensures { λ r. ⌜ r ≡ afterSearch p (foundOf found) ⌝ }
+{
+    match found {
+        Found::Silent => p,
+        Found::Unfit => p,
+        Found::Fit(_, c, m) => taken(p, c, m),
+    }
+}
+
+// The index of the message that leaves the mailbox; `none` where none does.
+pub fn fit_index(found: Found, none: usize) -> usize
+    ensures { λ r. ⌜ r ≡ fitIndex none (foundOf found) ⌝ }
+{
+    match found {
+        Found::Silent => none,
+        Found::Unfit => none,
+        Found::Fit(i, _, _) => i,
+    }
+}
+
 // Process p behind a recv whose clause c takes message m.
-pub fn taken(p: Process, c: Op, m: Message) -> Process
+fn taken(p: Process, c: Op, m: Message) -> Process
     ensures { λ r. ⌜ r ≡ moved (withMessage p c m) (c .target) ⌝ }
 {
     with_message(p, c, m).moved(c.target)
@@ -94,12 +137,12 @@ fn awaits_live(p: Process, len: u8, op: Op) -> bool
     op.number == RECV
 }
 
-// 28: the refusal of a timeout at the recv at `place` of a code of len ops, where the search of the mailbox told `refusal` and `behind` is
+// 28: the refusal of a timeout at the recv at `place` of a code of len ops, where the search of the mailbox answered `found` and `behind` is
 // what stands behind its clauses, if that is within the code.
-pub fn timeout_refusal(refusal: u8, place: u8, clauses: u8, len: u8, behind: Op) -> u8
-    ensures { λ r. ⌜ r ≡ timeoutRefusal refusal place clauses len behind ⌝ }
+pub fn timeout_refusal(found: Found, place: u8, clauses: u8, len: u8, behind: Op) -> u8
+    ensures { λ r. ⌜ r ≡ timeoutRefusal (foundOf found) place clauses len behind ⌝ }
 {
-    if refusal != NO_FIT {
+    if is_fit(found) {
         return NO_TIMEOUT;
     }
     let at = (place as u16) + 1 + (clauses as u16);
@@ -110,4 +153,15 @@ pub fn timeout_refusal(refusal: u8, place: u8, clauses: u8, len: u8, behind: Op)
         return NO_TIMEOUT;
     }
     0
+}
+
+// The search found a message that fits.
+fn is_fit(found: Found) -> bool
+    ensures { λ r. ⌜ r ≡ isFit (foundOf found) ⌝ }
+{
+    match found {
+        Found::Silent => false,
+        Found::Unfit => false,
+        Found::Fit(_, _, _) => true,
+    }
 }

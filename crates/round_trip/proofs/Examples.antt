@@ -52,6 +52,8 @@ ops-written : map (λ (o : Op). opRow (instruction o)) (
     ∷ opWith clauseOp 0 1 2 exactKind (Int (negsuc 0))
     ∷ opWith afterOp 0 0 10 0 intZero
     ∷ opWith 13 2 0 7 0 (pid 16)
+    ∷ opWith 14 1 0 15 9 (Atom 9)
+    ∷ opWith 15 3 9 9 9 (Atom 9)
     ∷ [])
     ≡ bytes "op=set,3,i-2147483648"
     ∷ bytes "op=set,0,i2147483647"
@@ -69,6 +71,8 @@ ops-written : map (λ (o : Op). opRow (instruction o)) (
     ∷ bytes "op=clause,i-1,0,1,2"
     ∷ bytes "op=after,10"
     ∷ bytes "op=same,2,p16,7"
+    ∷ bytes "op=less,1,0,15"
+    ∷ bytes "op=stop,3"
     ∷ []
 unfolding opRow operandsText operandText kindText digits digitsIn valueText numberText intText instruction operand kindsOf opWith
 ops-written = refl

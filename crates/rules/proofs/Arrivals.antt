@@ -1,9 +1,8 @@
 -- Arrivals: what is shown of each signal is one record (`Heard`), and what follows of an arrival. Assumes nothing.
 use mathlib.Core.Bool.{Bool, true, false, So}
 use mathlib.Core.List.{List, [], _∷_, _++_}
-use mathlib.Core.Path.{_≡_, refl, ap}
-use Prim.Native.Nat.{ℕ, _-_}
-use native.Mathlib.Omega.{arith}
+use mathlib.Core.Path.{refl}
+use Prim.Native.Nat.{ℕ}
 use borrow.Author.Tests.{not-true, ltb-true}
 use lib.Dec.{eqb}
 use lib.ListN.{length}
@@ -20,12 +19,11 @@ use Rattle.rules.specs.Arrive.{arrives, takes, exits, joinsWith, receive
 use Rattle.rules.specs.Behaviours.{Instruction}
 use Rattle.rules.specs.Effects.{State, Effect, becomes, ends}
 use Rattle.rules.specs.Nodes.{standing, standingSound, signalSound, sound}
-use Rattle.rules.specs.Steps.{isUnborn}
 use Rattle.rules.proofs.All.{both}
 use Rattle.rules.proofs.Cases.{joins-any, exits-any, downs-any, answers-any, arrives-any}
 use Rattle.rules.proofs.Keeps.{Good, becomes-alive, ends-good}
 use Rattle.rules.proofs.Living.{Alive, alive, alive-sound, live-born, joined-mailed, linked-alive, unlinked-alive, watched-alive, unwatched-alive, unwatching-alive, mailed-alive}
-use Rattle.rules.proofs.Told.{Told, Ruled}
+use Rattle.rules.proofs.Told.{Told, Common}
 
 module _ (i j : ℕ) (st : State) where
   -- signal y from j arrives at live process i, both numbers being numbers of processes
@@ -37,7 +35,7 @@ module _ (i j : ℕ) (st : State) where
 
   -- of answer x to signal y: which numbers it is refused with; arrays keep their lengths; what an effect must keep is kept
   pub record Heard (y : Signal) (x : Answer Effect) : Type 0 where
-    pub told : Told Ruled x
+    pub told : Told Common x
     pub good : (codes : List (List Instruction)) → Hears codes y → Good codes i (st .mail) x
 
   becomes-heard : (y : Signal) (q : Process) → ((codes : List (List Instruction)) → Hears codes y → Alive codes i q (st .mail)) → Heard y (becomes st q)
@@ -50,7 +48,7 @@ module _ (i j : ℕ) (st : State) where
   joins-heard : (y : Signal) (q : Process) (x : Message) → ((codes : List (List Instruction)) → Hears codes y → Alive codes i q (st .mail)) →
       ((codes : List (List Instruction)) → Hears codes y → So (messageSound x)) → Heard y (joinsWith st q x)
   joins-heard y q x a h = record {
-    told = joins-any st (Told Ruled) q x (omega arith, omega arith) (λ e. tt);
+    told = joins-any st (Told Common) q x refl (λ e. tt);
     good = λ codes g. joins-any st (Good codes i (st .mail)) q x tt (λ e.
         let m = st .mail ++ (x ∷ []) in
         let room = ltb-true (length (st .mail)) 16 e in
@@ -97,8 +95,8 @@ module _ (i j : ℕ) (st : State) where
 
   -- ---- an arrival
 
-  pub arrives-told : (y : Signal) → Told Ruled (arrives i j st y)
-  arrives-told y = arrives-any st (Told Ruled) i j y (λ q. (omega arith, omega arith)) (λ q. takes-heard y .told) (λ q. answers-any st (Told Ruled) j tt tt y)
+  pub arrives-told : (y : Signal) → Told Common (arrives i j st y)
+  arrives-told y = arrives-any st (Told Common) i j y (λ q. refl) (λ q. takes-heard y .told) (λ q. answers-any st (Told Common) j tt tt y)
 
   pub arrives-good : (codes : List (List Instruction)) → So (isNumber i) → So (standingSound codes i (standing (st .process) (st .mail))) → So (isNumber j) → (y : Signal) →
       So (signalSound j i y) → Good codes i (st .mail) (arrives i j st y)

@@ -1,7 +1,7 @@
 -- The rules by cases, over any statement on an answer: what holds of each answer that a rule can give holds of the answer that it gives. So
 -- what is to be shown of every op or signal is said of each case once. Assumes nothing.
 use mathlib.Core.Bool.{Bool, true, false, cond, not, So, _&&_}
-use mathlib.Core.List.{List}
+use mathlib.Core.List.{List, [], _∷_}
 use mathlib.Core.Option.{Option, none, some, Option·none-ne-some, Option·some-injective}
 use mathlib.Core.Path.{_≡_, refl, ap}
 use Prim.Native.Nat.{ℕ, zero, suc, _+_}
@@ -27,10 +27,10 @@ use Rattle.node.specs.Processes.{moved, advanced, ended, linksTo, unlinked, wat
 use Rattle.node.specs.Sets.{lowestPeer}
 use Rattle.node.specs.Values.{normal, kill, killed, badarg, badarith, noproc, pid, isNumber, fitsInt, sameValue}
 use Rattle.node.proofs.Sets.{lowest-number}
-use Rattle.rules.specs.Answers.{Answer, refused, done, need, mailboxFull, noFit, ownerUnborn, ownerGone, noTimeout}
+use Rattle.rules.specs.Answers.{Answer, refused, done, need, mailboxFull, mailboxEmpty, noFit, ownerUnborn, ownerGone, noTimeout}
 use Rattle.rules.specs.Arrive.{joinsWith, received, notes, exits, downs, takes, isMonitor, answers, arrivesIn, arrives}
 use Rattle.rules.specs.Effects.{State, Effect, joining, becomes, ends, sends}
-use Rattle.rules.specs.Receive.{Fit, search, receivesFit, firstFit, receives}
+use Rattle.rules.specs.Receive.{Fit, search, firstFit, fit, answered, receivesBy, receives}
 use Rattle.rules.specs.Run.{setsRegister, jumpsIf, integerIn, onIntegers, setsSum, adds, compares, processIn, toProcess, sendsTo, toOther, runsOp, closesTo, closes, runsLive, runsIn, runs}
 use Rattle.rules.specs.Steps.{isUnborn}
 use Rattle.rules.specs.Timeout.{behindClauses, atAfter, expiresIf, expiresLive, expiresIn, expires}
@@ -78,14 +78,18 @@ module _ (st : State) (P : Answer Effect → Type 0) where
       go true e = g
       go false e = h e
 
-  pub receives-any : (code : List Op) (o : Op) → P (refused noFit) →
-      ((f : Fit) → search (take (o .small) (drop (st .process .place + 1) code)) 0 (st .mail) ≡ some f → P (receivesFit st (some f))) →
+  pub receives-any : (code : List Op) (o : Op) → P (refused mailboxEmpty) → P (refused noFit) →
+      ((f : Fit) → search (take (o .small) (drop (st .process .place + 1) code)) 0 (st .mail) ≡ some f → P (receivesBy st (fit f))) →
       P (receives code st o)
   unfolding receives
-  receives-any code o g h = go (search (take (o .small) (drop (st .process .place + 1) code)) 0 (st .mail)) refl
+  receives-any code o k l h = go (search (take (o .small) (drop (st .process .place + 1) code)) 0 (st .mail)) refl
     where
-      go : (f : Option Fit) → search (take (o .small) (drop (st .process .place + 1) code)) 0 (st .mail) ≡ f → P (receivesFit st f)
-      go none e = g
+      missed : (ms : List Message) → P (receivesBy st (answered none ms))
+      missed [] = k
+      missed (m ∷ ms) = l
+
+      go : (f : Option Fit) → search (take (o .small) (drop (st .process .place + 1) code)) 0 (st .mail) ≡ f → P (receivesBy st (answered f (st .mail)))
+      go none e = missed (st .mail)
       go (some f) e = h f e
 
   -- ---- a run

@@ -6,23 +6,27 @@
 --   refused-cause      every refusal of a numbered step with a born owner and a waiting signal has a cause
 --   full-not-taken     Exclusive: 26 and 27 never meet, nor does either meet a refusal of the decision
 --   never-back         Forward: none of the six ways back is taken
-use mathlib.Core.Bool.{Bool, true, false, So, cond}
+--   quiet-only         Quiet: a run is refused with 25 where its words say so and nowhere else, and no arrival and no timeout ever is
+--   confused-only      Confused: the same of 29
+use mathlib.Core.Bool.{Bool, true, false, So, cond, not, _&&_, false≢true}
 use mathlib.Core.List.{List, [], _∷_}
 use mathlib.Core.Path.{_≡_, refl, sym, _∙_, ap, subst}
 use Prim.Native.Nat.{ℕ, zero, suc, _≤_, _<_}
 use native.Mathlib.Omega.{arith}
-use borrow.Author.Tests.{eqb-true}
+use borrow.Author.Tests.{eqb-true, eq-eqb}
 use lib.Dec.{eqb}
 use lib.ListN.{length, take, drop}
 use Rattle.node.specs.declared.Node.{Node}
 use Rattle.node.specs.declared.Stage.{Stage}
 use Rattle.node.specs.declared.Stage.the-variants.{Unborn, Live, Closing, Gone}
-use Rattle.rules.specs.Answers.{Answer, refused, done, need, goOn, pairFull, notUnborn}
+use Rattle.rules.specs.Answers.{Answer, refused, done, need, goOn, mailboxEmpty, pairFull, notUnborn, noFit}
 use Rattle.rules.specs.Calls.{Call, single, schedule, nodeBehind, callNode, after}
 use Rattle.rules.specs.Effects.{Effect}
 use Rattle.rules.specs.Guarantees.{Order, SoundKept, Stopped, PlayIsSteps, Cause, undecided, full, taken, Exclusive, rank, Forward}
-use Rattle.rules.specs.Nodes.{Sound, process}
-use Rattle.rules.specs.Steps.{Action, run, arrive, owner, numbered, ownerBorn, signalWaits, pairHasRoom, numberFree, commit, decide, ready, rule, step, play}
+use Rattle.rules.specs.Guarantees.{clausesOf, isRefusal, atRecv, isEmpty, Quiet, Confused}
+use Rattle.rules.specs.Nodes.{Sound, process, mailbox}
+use Rattle.rules.specs.Steps.{Action, run, arrive, timeout, owner, numbered, ownerBorn, signalWaits, pairHasRoom, numberFree, commit, decide, ready, rule, step, play}
+use Rattle.rules.specs.Timeout.{noneFits}
 use Rattle.rules.specs.Traces.{owned, Runs}
 use Rattle.rules.proofs.Accepted.{step-rule}
 use Rattle.rules.proofs.Sample.{started}
@@ -155,3 +159,30 @@ never-back f n m a h i b =
     let x = f n m a h i in
     let y = back-rank (process n i .stage) (process m i .stage) b in
     omega arith
+
+-- ---- Quiet and Confused
+
+-- an answer that is refusal k exactly where b is set, both ways
+refusal-is : (k : ℕ) (x : Answer Node) (b : Bool) → isRefusal k x ≡ b → (x ≡ refused k → So b) × (So b → x ≡ refused k)
+refusal-is k x b e = (λ h. sym e ∙ ap (isRefusal k) h ∙ eq-eqb k k refl, back x e)
+  where
+    back : (x : Answer Node) → isRefusal k x ≡ b → So b → x ≡ refused k
+    back (refused m) e h = ap refused (eqb-true m k (e ∙ h))
+    back (done m) e h = absurd (false≢true (e ∙ h))
+
+-- the run of i is refused with k exactly where b is set; its arrival from j and its timeout are not
+abbrev Only : ℕ → Node → ℕ → ℕ → Bool → Type 0
+Only k n i j b =
+    (step n (run i) ≡ refused k → So b) × (So b → step n (run i) ≡ refused k) ×
+    (step n (arrive i j) ≡ refused k → ⊥) × (step n (timeout i) ≡ refused k → ⊥)
+
+only : (k : ℕ) (n : Node) (i j : ℕ) (b : Bool) → isRefusal k (step n (run i)) ≡ b → isRefusal k (step n (arrive i j)) ≡ false → isRefusal k (step n (timeout i)) ≡ false → Only k n i j b
+only k n i j b r a t =
+    let w = refusal-is k (step n (run i)) b r in
+    (w .0, w .1, λ h. false≢true (refusal-is k (step n (arrive i j)) false a .0 h), λ h. false≢true (refusal-is k (step n (timeout i)) false t .0 h))
+
+pub quiet-only : Quiet → (n : Node) (i j : ℕ) → Sound n → Only mailboxEmpty n i j (atRecv n i && isEmpty (mailbox n i))
+quiet-only q n i j s = only mailboxEmpty n i j _ (q n (run i) s) (q n (arrive i j) s) (q n (timeout i) s)
+
+pub confused-only : Confused → (n : Node) (i j : ℕ) → Sound n → Only noFit n i j (atRecv n i && not (isEmpty (mailbox n i)) && noneFits (clausesOf n i) (mailbox n i))
+confused-only q n i j s = only noFit n i j _ (q n (run i) s) (q n (arrive i j) s) (q n (timeout i) s)

@@ -18,6 +18,7 @@ pub mod Commute
 pub mod Order
 pub mod Paths
 pub mod Refusals
+pub mod Waiting
 pub mod Suggest
 pub mod Sample
 pub mod Witness

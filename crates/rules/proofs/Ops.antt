@@ -1,11 +1,12 @@
 -- The ops: what is shown of each is one record (`Shown`) with a row to an op (`rows`), so that one thing more to show is one field more.
 --   Running     a live process of a sound node is at op o of its code
---   Shown k x   of answer x, which the op with number k gives: it is refused with 25 only, and only at a recv; what an effect must keep
+--   Shown k x   of answer x, which the op with number k gives: it is refused with 25 or 29 only, and only at a recv; what an effect must keep
 --               is kept
 --   op-shown    every op is shown so
 -- Assumes nothing.
 use mathlib.Core.Bool.{Bool, true, false, not, So, cond, _&&_, _||_}
 use mathlib.Core.List.{List, [], _∷_, map}
+use mathlib.Core.Logic.{inl, inr}
 use mathlib.Core.Option.{Option, none, some}
 use mathlib.Core.Path.{_≡_, refl, sym, _∙_, subst}
 use Prim.Native.Nat.{ℕ, suc, _+_, _-_, _≤_, _<_, min}
@@ -30,11 +31,11 @@ use Rattle.node.specs.Nodes.{noOp}
 use Rattle.node.specs.Ops.{kindsOf, opCount, recvOp, clauseOp, afterOp}
 use Rattle.node.specs.Processes.{register, withRegister, withRegisters, moved, advanced, trapped, linked, unlinked, watching, unwatching, ended}
 use Rattle.node.specs.Values.{badarg, badarith, pid, isNumber, valueSound, messageSound, sameValue}
-use Rattle.rules.specs.Answers.{Answer, noFit}
+use Rattle.rules.specs.Answers.{Answer}
 use Rattle.rules.specs.Behaviours.{Instruction, instruction, numeric, operand, operandInRange, onPart, isRecv, isClause, isAfter, clauseCount, noInstruction, hasClauses, codeSound}
 use Rattle.rules.specs.Effects.{State, Effect, becomes, ends}
 use Rattle.rules.specs.Nodes.{signalSound, sound}
-use Rattle.rules.specs.Receive.{Fit, fits, firstClause, search, withSender, withMessage, receivesFit, receives}
+use Rattle.rules.specs.Receive.{Fit, fits, firstClause, search, withSender, withMessage, fit, receivesBy, receives}
 use Rattle.rules.specs.Run.{setsRegister, jumpsIf, sendsTo, toOther, spawns, stops, opTable, runsOp}
 use Rattle.rules.proofs.All.{parts, or-left, allOf-at, Each, last, _then_, each-at}
 use Rattle.rules.proofs.Cases.{jumps-any, adds-any, compares-any, sendsTo-any, toOther-any, receives-any}
@@ -42,7 +43,7 @@ use Rattle.rules.proofs.Keeps.{Good, becomes-alive, sends-alive, ends-g
 use Rattle.rules.proofs.Living.{codeOf, Valued, Mailed, Alive, alive, alive-sound, live-born, without-mailed, register-sound, withRegister-keeps, moved-alive, registers-alive}
 use Rattle.rules.proofs.Living.{trapped-alive, linked-alive, unlinked-alive, watching-alive, unwatching-alive, mailed-alive}
 use Rattle.rules.proofs.Places.{code-short, next-off, op-at, facts, in-range, target-at, fresh-sound}
-use Rattle.rules.proofs.Told.{Told}
+use Rattle.rules.proofs.Told.{Told, Waits}
 
 -- ---- receiving
 
@@ -207,7 +208,7 @@ module _ (codes : List (List Instruction)) (i : ℕ) (ops : List Op) (st : State
     withMessage-alive c (Note j v) h = told-alive c j v h
     withMessage-alive c (Down j v) h = told-alive c j v h
 
-  fit-good : o .number ≡ recvOp → (f : Fit) → search (take (o .small) (drop (t + 1) ops)) 0 (st .mail) ≡ some f → Good codes i (st .mail) (receivesFit st (some f))
+  fit-good : o .number ≡ recvOp → (f : Fit) → search (take (o .small) (drop (t + 1) ops)) 0 (st .mail) ≡ some f → Good codes i (st .mail) (receivesBy st (fit f))
   fit-good e f q =
       let h : FitOk OnTarget (some f) = subst (FitOk OnTarget) q (search-fit OnTarget (take (o .small) (drop (t + 1) ops)) (clause-target e) 0 (st .mail) (g .alive .mailed .sound)) in
       let m = without (f .index) (st .mail) in
@@ -241,9 +242,9 @@ module _ (codes : List (List Instruction)) (i : ℕ) (ops : List Op) (st : State
 
 -- ---- what is shown of an op
 
--- an op with number k is refused with 25 only, and only if it is a recv
+-- an op with number k is refused with 25 or 29 only, and only if it is a recv
 abbrev pub At : ℕ → ℕ → Type 0
-At k m = (m ≡ noFit) × (k ≡ recvOp)
+At k m = Waits m × (k ≡ recvOp)
 
 module _ (code : List Op) (i : ℕ) (st : State) (o : Op) where
   pub record Shown (k : ℕ) (x : Answer Effect) : Type 0 where
@@ -364,8 +365,8 @@ module _ (code : List Op) (i : ℕ) (st : State) (o : Op) where
   receives-shown : Shown recvOp (receives code st o)
   unfolding moved
   receives-shown = record {
-    told = receives-any st (Told (At recvOp)) code o (refl, refl) (λ f q. tt);
-    good = λ codes g e. receives-any st (Good codes i (st .mail)) code o tt (fit-good codes i code st o g e);
+    told = receives-any st (Told (At recvOp)) code o (inl refl, refl) (inr refl, refl) (λ f q. tt);
+    good = λ codes g e. receives-any st (Good codes i (st .mail)) code o tt tt (fit-good codes i code st o g e);
   }
 
   -- where operand j of the op is a place, it is within the code and on no part of a recv

@@ -1,18 +1,19 @@
 -- A run: what it refuses with, and that it keeps what an effect must keep. Assumes nothing.
 use mathlib.Core.Bool.{not, So, _&&_}
 use mathlib.Core.List.{List, map}
+use mathlib.Core.Logic.{inl, inr}
 use mathlib.Core.Path.{_≡_, refl, sym, ap, subst}
-use Prim.Native.Nat.{ℕ, _-_}
-use native.Mathlib.Omega.{arith}
+use Prim.Native.Nat.{ℕ}
 use borrow.Author.Tests.{leb-false}
 use lib.Dec.{leb}
 use lib.ListN.{length, getD}
 use Rattle.node.specs.declared.Op.{Op}
 use Rattle.node.specs.declared.Process.{Process}
 use Rattle.node.specs.declared.Stage.{Stage}
-use Rattle.node.specs.declared.Stage.the-variants.{Closing, Gone}
+use Rattle.node.specs.declared.Stage.the-variants.{Live, Closing, Gone}
 use Rattle.node.specs.Lists.{allOf}
 use Rattle.node.specs.Nodes.{noOp}
+use Rattle.node.specs.Ops.{recvOp}
 use Rattle.node.specs.Processes.{unlinked, unwatched, gone}
 use Rattle.node.specs.Values.{normal, isNumber, valueSound}
 use Rattle.rules.specs.Behaviours.{Instruction, instruction, codeSound}
@@ -25,7 +26,7 @@ use Rattle.rules.proofs.Cases.{closes-any, runs-any}
 use Rattle.rules.proofs.Keeps.{Good, ends-good}
 use Rattle.rules.proofs.Living.{codeOf, Apart, alive, without-apart}
 use Rattle.rules.proofs.Ops.{At, op-shown}
-use Rattle.rules.proofs.Told.{Told, Ruled, told-more}
+use Rattle.rules.proofs.Told.{Told, Named, told-more}
 
 -- ---- closing
 
@@ -96,12 +97,16 @@ module _ (st : State) where
 -- ---- a run
 
 module _ (code : List Op) (i : ℕ) (st : State) where
-  pub runs-told : Told Ruled (runs code i st)
+  -- it is a live process at a recv
+  abbrev pub Receives : Type 0
+  Receives = (st .process .stage ≡ Live) × (getD code (st .process .place) noOp .number ≡ recvOp)
+
+  pub runs-told : Told (Named Receives) (runs code i st)
   runs-told =
       let o = getD code (st .process .place) noOp in
-      runs-any st (Told Ruled) code i (λ q. (omega arith, omega arith)) (λ q d. tt)
-      (λ q d. told-more (At (o .number)) Ruled (λ k e. (omega (arith, e .0), omega (arith, e .0))) (runsOp code i st o) (op-shown code i st o .told))
-      (λ q. closes-told st Ruled) (λ q. (omega arith, omega arith))
+      runs-any st (Told (Named Receives)) code i (λ q. inl refl) (λ q d. tt)
+      (λ q d. told-more (At (o .number)) (Named Receives) (λ k h. inr (h .0, (q, h .1))) (runsOp code i st o) (op-shown code i st o .told))
+      (λ q. closes-told st (Named Receives)) (λ q. inl refl)
 
   pub runs-good : (codes : List (List Instruction)) → So (isNumber i) → So (standingSound codes i (standing (st .process) (st .mail))) →
       (So (leb 1 (st .process .behaviour .0) && leb (st .process .behaviour .0) (length codes)) → codeOf codes (st .process .behaviour .0) ≡ map instruction code) →

@@ -2,7 +2,7 @@
 use mathlib.Core.Bool.{Bool, true, false, So, _&&_}
 use mathlib.Core.List.{List, map}
 use mathlib.Core.Path.{_≡_, refl, _∙_, ap, sym}
-use Prim.Native.Nat.{ℕ, suc, _+_, _<_}
+use Prim.Native.Nat.{ℕ, suc, _+_, _≤_, _<_}
 use native.Mathlib.Omega.{arith}
 use borrow.Author.Tests.{leb-true, leb-false, eqb-true}
 use lib.Dec.{leb, eqb}
@@ -22,21 +22,21 @@ use Rattle.rules.proofs.Cases.{expires-any}
 use Rattle.rules.proofs.Keeps.{Good, becomes-alive}
 use Rattle.rules.proofs.Living.{codeOf, alive, moved-alive}
 use Rattle.rules.proofs.Places.{target-at, code-passes}
-use Rattle.rules.proofs.Told.{Told, Ruled}
+use Rattle.rules.proofs.Told.{Told, Common}
 
 -- an op that is no blank one is inside the code
-inside-of : (code : List Op) (k : ℕ) → getD code k noOp .number ≡ afterOp → k < length code
-inside-of code k e = go (leb (suc k) (length code)) refl
+pub inside-of : (code : List Op) (k x : ℕ) → getD code k noOp .number ≡ x → 1 ≤ x → k < length code
+inside-of code k x e p = go (leb (suc k) (length code)) refl
   where
     go : (b : Bool) → leb (suc k) (length code) ≡ b → k < length code
     go true h = leb-true (suc k) (length code) h
     go false h =
-        let z : _≡_ {A = ℕ} 0 afterOp = ap (λ (o : Op). o .number) (sym (List·getD-eq-default code noOp {n = k} (omega (arith, leb-false (suc k) (length code) h)))) ∙ e in
+        let z : 0 ≡ x = ap (λ (o : Op). o .number) (sym (List·getD-eq-default code noOp {n = k} (omega (arith, leb-false (suc k) (length code) h)))) ∙ e in
         absurd (omega (arith, z))
 
 module _ (code : List Op) (st : State) where
-  pub expires-told : Told Ruled (expires code st)
-  expires-told = expires-any st (Told Ruled) code (λ q. (omega arith, omega arith)) (omega arith, omega arith) (λ q h. tt)
+  pub expires-told : Told Common (expires code st)
+  expires-told = expires-any st (Told Common) code (λ q. refl) refl (λ q h. tt)
 
   abbrev t : ℕ
   t = st .process .place
@@ -61,5 +61,5 @@ module _ (code : List Op) (st : State) where
           let e = after-at h .1 in
           let k = t + 1 + getD code t noOp .small in
           let checked = code-passes codes (st .process .behaviour .0) code (a .placed .known) is sounds in
-          let w = target-at (length codes) code checked k (inside-of code k e) (behindClauses code t) refl afterOp 0 e (omega arith) refl in
+          let w = target-at (length codes) code checked k (inside-of code k afterOp e (omega arith)) (behindClauses code t) refl afterOp 0 e (omega arith) refl in
           becomes-alive codes i st _ (moved-alive codes i (st .process) (st .mail) a (behindClauses code t .target) (rw is (w .0)) (rw is (w .1)))

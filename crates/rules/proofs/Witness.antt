@@ -1,4 +1,5 @@
--- That the guarantees speak of something: the sample node is sound, and lists of steps on it that differ and end alike, computed. Assumes nothing.
+-- That the guarantees speak of something: the sample node is sound, lists of steps on it that differ and end alike, and a step that is refused
+-- with 25 and one with 29, computed. Assumes nothing.
 use mathlib.Core.Bool.{false}
 use mathlib.Core.List.{List, [], _∷_, map}
 use mathlib.Core.Path.{_≡_, refl, sym, _∙_, ap}
@@ -17,6 +18,7 @@ use Rattle.node.specs.Processes.{register, withRegister, moved, advanced, trapp
 use Rattle.node.specs.Rows.{signals, oldest}
 use Rattle.node.specs.Sets.{noPeers, bitsOf, has, withPeer, withoutPeer, lowestPeer}
 use Rattle.node.specs.Values.{intZero, normal, pid, isNumber, fitsInt}
+use Rattle.rules.specs.Answers.{refused, mailboxEmpty, noFit}
 use Rattle.rules.specs.Arrive.{arrives, exits}
 use Rattle.rules.specs.Behaviours.{operand, instruction, operandInRange, inRange, hasClauses, targetsFree, wellPlaced, codeSound}
 use Rattle.rules.specs.Calls.{Call, single, schedule, callNode, callSteps, after, accepted}
@@ -60,35 +62,35 @@ stands b t v w = record {
   reason = normal;
 }
 
-withSlots : Node → List Slot → Node
-withSlots n slots = record { count = n .count; lens = n .lens; ops = n .ops; processes = n .processes; waiting = n .waiting; slots = slots; counts = n .counts; cells = n .cells }
+withMail : Node → List ℕ → List Slot → Node
+withMail n waiting slots = record { count = n .count; lens = n .lens; ops = n .ops; processes = n .processes; waiting = waiting; slots = slots; counts = n .counts; cells = n .cells }
 
 -- the message that was received stays behind in the slot where it stood, and is not counted
 finish : Node
-finish = withSlots (sample (stands 1 3 (pid 2) (int 12)) (stands 2 2 (int 12) intZero)) (set (replicate 256 noMessage) 16 (slotOf (Plain (int 12))))
+finish = withMail (sample (stands 1 3 (pid 2) (int 12)) (stands 2 2 (int 12) intZero)) (replicate 16 0) (set (replicate 256 noMessage) 16 (slotOf (Plain (int 12))))
 
 early-end : after started early ≡ finish
-unfolding early late mixed finish withSlots stands after accepted callNode callSteps owned started sample opOf play played step rule ready commit incoming decide numbered ownerBorn signalWaits pairHasRoom numberFree sound shaped viewSound view behavioursOf code setOf has bitsOf standing runningSound rowSound receives fits runs runsLive runsOp closes arrives exits operand instruction operandInRange inRange hasClauses targetsFree wellPlaced codeSound isNumber fitsInt messages changed joined left popped emptied signals oldest register withRegister moved advanced trapped linksTo linked unlinked withPeer withoutPeer lowestPeer ended gone kindsOf
+unfolding early late mixed finish withMail stands after accepted callNode callSteps owned started sample opOf play played step rule ready commit incoming decide numbered ownerBorn signalWaits pairHasRoom numberFree sound shaped viewSound view behavioursOf code setOf has bitsOf standing runningSound rowSound receives fits runs runsLive runsOp closes arrives exits operand instruction operandInRange inRange hasClauses targetsFree wellPlaced codeSound isNumber fitsInt messages changed joined left popped emptied signals oldest register withRegister moved advanced trapped linksTo linked unlinked withPeer withoutPeer lowestPeer ended gone kindsOf
 early-end = refl
 
 late-end : after started late ≡ finish
-unfolding early late mixed finish withSlots stands after accepted callNode callSteps owned started sample opOf play played step rule ready commit incoming decide numbered ownerBorn signalWaits pairHasRoom numberFree sound shaped viewSound view behavioursOf code setOf has bitsOf standing runningSound rowSound receives fits runs runsLive runsOp closes arrives exits operand instruction operandInRange inRange hasClauses targetsFree wellPlaced codeSound isNumber fitsInt messages changed joined left popped emptied signals oldest register withRegister moved advanced trapped linksTo linked unlinked withPeer withoutPeer lowestPeer ended gone kindsOf
+unfolding early late mixed finish withMail stands after accepted callNode callSteps owned started sample opOf play played step rule ready commit incoming decide numbered ownerBorn signalWaits pairHasRoom numberFree sound shaped viewSound view behavioursOf code setOf has bitsOf standing runningSound rowSound receives fits runs runsLive runsOp closes arrives exits operand instruction operandInRange inRange hasClauses targetsFree wellPlaced codeSound isNumber fitsInt messages changed joined left popped emptied signals oldest register withRegister moved advanced trapped linksTo linked unlinked withPeer withoutPeer lowestPeer ended gone kindsOf
 late-end = refl
 
 mixed-end : after started mixed ≡ finish
-unfolding early late mixed finish withSlots stands after accepted callNode callSteps owned started sample opOf play played step rule ready commit incoming decide numbered ownerBorn signalWaits pairHasRoom numberFree sound shaped viewSound view behavioursOf code setOf has bitsOf standing runningSound rowSound receives fits runs runsLive runsOp closes arrives exits operand instruction operandInRange inRange hasClauses targetsFree wellPlaced codeSound isNumber fitsInt messages changed joined left popped emptied signals oldest register withRegister moved advanced trapped linksTo linked unlinked withPeer withoutPeer lowestPeer ended gone kindsOf
+unfolding early late mixed finish withMail stands after accepted callNode callSteps owned started sample opOf play played step rule ready commit incoming decide numbered ownerBorn signalWaits pairHasRoom numberFree sound shaped viewSound view behavioursOf code setOf has bitsOf standing runningSound rowSound receives fits runs runsLive runsOp closes arrives exits operand instruction operandInRange inRange hasClauses targetsFree wellPlaced codeSound isNumber fitsInt messages changed joined left popped emptied signals oldest register withRegister moved advanced trapped linksTo linked unlinked withPeer withoutPeer lowestPeer ended gone kindsOf
 mixed-end = refl
 
 pub early-steps : accepted started early ≡ run 1 ∷ run 1 ∷ run 1 ∷ run 1 ∷ arrive 2 1 ∷ run 2 ∷ run 2 ∷ []
-unfolding early late mixed finish withSlots stands after accepted callNode callSteps owned started sample opOf play played step rule ready commit incoming decide numbered ownerBorn signalWaits pairHasRoom numberFree sound shaped viewSound view behavioursOf code setOf has bitsOf standing runningSound rowSound receives fits runs runsLive runsOp closes arrives exits operand instruction operandInRange inRange hasClauses targetsFree wellPlaced codeSound isNumber fitsInt messages changed joined left popped emptied signals oldest register withRegister moved advanced trapped linksTo linked unlinked withPeer withoutPeer lowestPeer ended gone kindsOf
+unfolding early late mixed finish withMail stands after accepted callNode callSteps owned started sample opOf play played step rule ready commit incoming decide numbered ownerBorn signalWaits pairHasRoom numberFree sound shaped viewSound view behavioursOf code setOf has bitsOf standing runningSound rowSound receives fits runs runsLive runsOp closes arrives exits operand instruction operandInRange inRange hasClauses targetsFree wellPlaced codeSound isNumber fitsInt messages changed joined left popped emptied signals oldest register withRegister moved advanced trapped linksTo linked unlinked withPeer withoutPeer lowestPeer ended gone kindsOf
 early-steps = refl
 
 pub late-steps : accepted started late ≡ run 1 ∷ run 1 ∷ run 1 ∷ arrive 2 1 ∷ run 2 ∷ run 2 ∷ run 1 ∷ []
-unfolding early late mixed finish withSlots stands after accepted callNode callSteps owned started sample opOf play played step rule ready commit incoming decide numbered ownerBorn signalWaits pairHasRoom numberFree sound shaped viewSound view behavioursOf code setOf has bitsOf standing runningSound rowSound receives fits runs runsLive runsOp closes arrives exits operand instruction operandInRange inRange hasClauses targetsFree wellPlaced codeSound isNumber fitsInt messages changed joined left popped emptied signals oldest register withRegister moved advanced trapped linksTo linked unlinked withPeer withoutPeer lowestPeer ended gone kindsOf
+unfolding early late mixed finish withMail stands after accepted callNode callSteps owned started sample opOf play played step rule ready commit incoming decide numbered ownerBorn signalWaits pairHasRoom numberFree sound shaped viewSound view behavioursOf code setOf has bitsOf standing runningSound rowSound receives fits runs runsLive runsOp closes arrives exits operand instruction operandInRange inRange hasClauses targetsFree wellPlaced codeSound isNumber fitsInt messages changed joined left popped emptied signals oldest register withRegister moved advanced trapped linksTo linked unlinked withPeer withoutPeer lowestPeer ended gone kindsOf
 late-steps = refl
 
 pub mixed-steps : accepted started mixed ≡ run 1 ∷ run 1 ∷ run 1 ∷ run 1 ∷ arrive 2 1 ∷ run 2 ∷ run 2 ∷ []
-unfolding early late mixed finish withSlots stands after accepted callNode callSteps owned started sample opOf play played step rule ready commit incoming decide numbered ownerBorn signalWaits pairHasRoom numberFree sound shaped viewSound view behavioursOf code setOf has bitsOf standing runningSound rowSound receives fits runs runsLive runsOp closes arrives exits operand instruction operandInRange inRange hasClauses targetsFree wellPlaced codeSound isNumber fitsInt messages changed joined left popped emptied signals oldest register withRegister moved advanced trapped linksTo linked unlinked withPeer withoutPeer lowestPeer ended gone kindsOf
+unfolding early late mixed finish withMail stands after accepted callNode callSteps owned started sample opOf play played step rule ready commit incoming decide numbered ownerBorn signalWaits pairHasRoom numberFree sound shaped viewSound view behavioursOf code setOf has bitsOf standing runningSound rowSound receives fits runs runsLive runsOp closes arrives exits operand instruction operandInRange inRange hasClauses targetsFree wellPlaced codeSound isNumber fitsInt messages changed joined left popped emptied signals oldest register withRegister moved advanced trapped linksTo linked unlinked withPeer withoutPeer lowestPeer ended gone kindsOf
 mixed-steps = refl
 
 -- different orders, equal ends
@@ -98,3 +100,16 @@ early-late = early-end ∙ sym late-end
 -- refused steps in one list and none in the other, and equal ends
 pub early-mixed : (after started early ≡ after started mixed) × (length (accepted started mixed) ≡ 7)
 early-mixed = (early-end ∙ sym mixed-end, ap length mixed-steps)
+
+-- process 2 has no mail where it waits for an integer
+pub hears-nothing : step started (run 2) ≡ refused mailboxEmpty
+unfolding started sample opOf step rule ready decide numbered ownerBorn signalWaits sound shaped viewSound view behavioursOf code setOf has bitsOf standing runningSound rowSound receives fits runs runsLive runsOp operand instruction operandInRange inRange hasClauses targetsFree wellPlaced codeSound isNumber fitsInt messages signals linksTo kindsOf
+hears-nothing = refl
+
+-- a process number has come to it instead
+pub puzzled : Node
+puzzled = withMail started (set (replicate 16 0) 1 1) (set (replicate 256 noMessage) 16 (slotOf (Plain (pid 1))))
+
+pub hears-wrong : step puzzled (run 2) ≡ refused noFit
+unfolding puzzled withMail started sample opOf step rule ready decide numbered ownerBorn signalWaits sound shaped viewSound view behavioursOf code setOf has bitsOf standing runningSound rowSound receives fits runs runsLive runsOp operand instruction operandInRange inRange hasClauses targetsFree wellPlaced codeSound isNumber fitsInt messages signals linksTo kindsOf
+hears-wrong = refl

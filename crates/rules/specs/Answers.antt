@@ -37,9 +37,9 @@ noneInFlight = 23
 abbrev pub mailboxFull : ℕ
 mailboxFull = 24
 
--- recv without a fit
-abbrev pub noFit : ℕ
-noFit = 25
+-- recv with an empty mailbox
+abbrev pub mailboxEmpty : ℕ
+mailboxEmpty = 25
 
 abbrev pub pairFull : ℕ
 pairFull = 26
@@ -51,6 +51,10 @@ notUnborn = 27
 -- timeout of a process that is not live at a recv with `after`, or for which a message fits
 abbrev pub noTimeout : ℕ
 noTimeout = 28
+
+-- recv with messages of which none fits, in 25's place in the order
+abbrev pub noFit : ℕ
+noFit = 29
 
 -- node not sound
 abbrev pub notSound : ℕ

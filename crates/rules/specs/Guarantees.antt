@@ -1,28 +1,34 @@
--- The guarantees on these rules. Each is proved in proofs/Order.antt, the last in proofs/Expiry.antt, under the name beside it;
--- proofs/Consequences.antt draws from each what a weaker statement would not give.
+-- The guarantees on these rules. Each is proved in proofs/Order.antt, those of M-102 and M-104 in proofs/Expiry.antt and proofs/Waiting.antt, under the
+-- name beside it; proofs/Consequences.antt draws from each what a weaker statement would not give.
 --   Order        order         demand 3: lists in which each process has the same accepted steps in the same order end in equal nodes
 --   SoundKept    sound-kept    an accepted step and a play of a sound node leave a sound node
 --   PlayIsSteps  play-is-steps a play of a sound node is its steps one after another, up to the first refusal
 --   Exclusive    exclusive     "then the rest, of which no two can meet"
 --   Forward      forward       stages only go forward: unborn, live, closing, gone
 --   Timeouts     timeouts      M-102: a timeout is accepted exactly where its owner may give up; else it is 20, 21 or 28, each exactly
-use mathlib.Core.Bool.{Bool, false, So, not, _&&_}
+--   Quiet        quiet         M-104: 25 is told exactly of a run of a live process at a recv whose mailbox is empty
+--   Confused     confused      M-104: 29 is told exactly of a run of a live process at a recv whose mailbox has messages, of which none fits
+use mathlib.Core.Bool.{Bool, true, false, So, not, _&&_}
 use mathlib.Core.List.{List, [], _∷_}
 use mathlib.Core.Path.{_≡_}
 use Prim.Native.Nat.{ℕ, _+_, _-_, _≤_}
+use lib.Dec.{eqb}
 use lib.ListN.{length, getD, set, take, drop}
+use Rattle.node.specs.declared.Message.{Message}
 use Rattle.node.specs.declared.Node.{Node}
+use Rattle.node.specs.declared.Op.{Op}
 use Rattle.node.specs.declared.Stage.{Stage}
 use Rattle.node.specs.declared.Stage.the-variants.{Unborn, Live, Closing, Gone}
 use Rattle.node.specs.Nodes.{noOp}
+use Rattle.node.specs.Ops.{recvOp}
 use Rattle.node.specs.Processes.{moved}
 use Rattle.node.specs.Values.{isNumber}
-use Rattle.rules.specs.Answers.{refused, done, need, badNumber, ownerUnborn, pairFull, notUnborn, noTimeout}
+use Rattle.rules.specs.Answers.{Answer, refused, done, need, badNumber, ownerUnborn, mailboxEmpty, pairFull, notUnborn, noTimeout, noFit}
 use Rattle.rules.specs.Calls.{Call, after, acceptedBy}
 use Rattle.rules.specs.Effects.{Effect}
 use Rattle.rules.specs.Nodes.{Sound, code, process, mailbox}
-use Rattle.rules.specs.Steps.{Action, timeout, owner, isUnborn, numbered, signalWaits, pairHasRoom, numberFree, decide, step, play}
-use Rattle.rules.specs.Timeout.{behindClauses, atAfter, isLive, silent}
+use Rattle.rules.specs.Steps.{Action, run, arrive, timeout, owner, isUnborn, numbered, signalWaits, pairHasRoom, numberFree, decide, step, play}
+use Rattle.rules.specs.Timeout.{behindClauses, atAfter, isLive, noneFits}
 use Rattle.rules.specs.Traces.{Runs}
 
 -- For every sound node and every two lists of calls, single steps or plays, refused steps included: where each process 1 to 16 has the same
@@ -48,7 +54,7 @@ PlayIsSteps =
     Runs step n (take (play n l .accepted) l) (play n l .node) ×
     Stopped (play n l .node) (drop (play n l .accepted) l) (play n l .refusal)
 
--- why a step that passes 20, 21 and 23 is refused: the decision says so (22, 24, 25, 28), or 26, or 27
+-- why a step that passes 20, 21 and 23 is refused: the decision says so (22, 24, 25, 28, 29), or 26, or 27
 pub data Cause (n : Node) (a : Action) : ℕ → Type 0 where
   undecided : {k : ℕ} → decide n a ≡ refused k → Cause n a k
   full : {e : Effect} → decide n a ≡ done e → pairHasRoom n (owner a) (e .sent) ≡ false → Cause n a pairFull
@@ -66,12 +72,16 @@ rank Gone = 3
 abbrev pub Forward : Type 0
 Forward = (n m : Node) (a : Action) → step n a ≡ done m → (i : ℕ) → rank (process n i .stage) ≤ rank (process m i .stage)
 
+-- the ops of process i's behaviour, and the clauses of the recv at which it is
+abbrev pub opsOf : Node → ℕ → List Op
+opsOf n i = code n (process n i .behaviour .0)
+
+abbrev pub clausesOf : Node → ℕ → List Op
+clausesOf n i = let t = process n i .place in take (getD (opsOf n i) t noOp .small) (drop (t + 1) (opsOf n i))
+
 -- "a live process at such a recv .. if no message fits"
 abbrev pub mayExpire : Node → ℕ → Bool
-mayExpire n i =
-    let p = process n i in
-    let ops = code n (p .behaviour .0) in
-    isLive (p .stage) && atAfter ops (p .place) && silent (take (getD ops (p .place) noOp .small) (drop (p .place + 1) ops)) (mailbox n i)
+mayExpire n i = isLive (process n i .stage) && atAfter (opsOf n i) (process n i .place) && noneFits (clausesOf n i) (mailbox n i)
 
 -- the place becomes the target of the `after`; "Nothing else changes"
 abbrev pub expiredNode : Node → ℕ → Node
@@ -96,3 +106,34 @@ Timeouts =
     (need (not (isUnborn (process n i .stage))) ownerUnborn
     (need (mayExpire n i) noTimeout
     (done (expiredNode n i))))
+
+-- answer a is refusal k
+abbrev pub isRefusal : ℕ → Answer Node → Bool
+isRefusal k (refused m) = eqb m k
+isRefusal k (done n) = false
+
+-- i is the number of a live process at a recv; past the code stands no op
+abbrev pub atRecv : Node → ℕ → Bool
+atRecv n i = isNumber i && isLive (process n i .stage) && eqb (getD (opsOf n i) (process n i .place) noOp .number) recvOp
+
+abbrev pub isEmpty : List Message → Bool
+isEmpty [] = true
+isEmpty (m ∷ ms) = false
+
+-- "25 keeps the empty mailbox"
+abbrev pub meetsSilence : Node → Action → Bool
+meetsSilence n (run i) = atRecv n i && isEmpty (mailbox n i)
+meetsSilence n (arrive i j) = false
+meetsSilence n (timeout i) = false
+
+-- "29 .. when the mailbox has messages and none fits"
+abbrev pub meetsUnfit : Node → Action → Bool
+meetsUnfit n (run i) = atRecv n i && not (isEmpty (mailbox n i)) && noneFits (clausesOf n i) (mailbox n i)
+meetsUnfit n (arrive i j) = false
+meetsUnfit n (timeout i) = false
+
+abbrev pub Quiet : Type 0
+Quiet = (n : Node) (a : Action) → Sound n → isRefusal mailboxEmpty (step n a) ≡ meetsSilence n a
+
+abbrev pub Confused : Type 0
+Confused = (n : Node) (a : Action) → Sound n → isRefusal noFit (step n a) ≡ meetsUnfit n a

@@ -1,10 +1,14 @@
--- Receiving (document 01, "Recv").
+-- Receiving (document 01, "Recv"; document 02, M-104).
 --   fits c m           clause c takes message m
 --   Fit                a message, its index in the mailbox, and the clause that takes it
 --   search cs i ms     the first fit: messages in mailbox order, the first having index i, and for each the clauses in their order
 --   withMessage p c m  process p with message m in the registers that clause c names
---   firstFit code st o what the search gives for recv o, at which the process is
---   receives           the answer of a recv
+--   firstFit code st o the first fit for recv o, at which the process is
+--   Searched           what the search of a mailbox answers: it is silent, its messages are unfit, or the first fit
+--   answered f ms      that answer for mailbox ms, in which f is the first fit
+--   searchNumber s     the number of document 01 for each of the three
+--   receivesBy st s    the answer of a recv, where the search answers s
+--   receives code st o the answer of recv o
 use mathlib.Core.Bool.{Bool, false, cond, _||_}
 use mathlib.Core.List.{List, [], _∷_}
 use mathlib.Core.Option.{Option, none, some}
@@ -20,7 +24,7 @@ use Rattle.node.specs.declared.Value.{Value}
 use Rattle.node.specs.declared.Value.the-variants.{Pid}
 use Rattle.node.specs.Processes.{withRegister, moved}
 use Rattle.node.specs.Values.{exactKind, anyKind, messageKind, sameValue}
-use Rattle.rules.specs.Answers.{Answer, refused, done, noFit}
+use Rattle.rules.specs.Answers.{Answer, refused, done, mailboxEmpty, noFit}
 use Rattle.rules.specs.Effects.{State, Effect, leaving}
 
 abbrev pub isValue : Value → Message → Bool
@@ -55,19 +59,37 @@ withMessage p c (Plain v) = withRegister p (c .r) v
 withMessage p c (Note j v) = withSender p c j v
 withMessage p c (Down j v) = withSender p c j v
 
+-- "The next n ops are its clauses"
+abbrev pub firstFit : List Op → State → Op → Option Fit
+firstFit code st o = search (take (o .small) (drop (st .process .place + 1) code)) 0 (st .mail)
+
+-- M-104: "a row that hears nothing" and "one that hears the wrong thing"
+pub data Searched : Type 0 where
+  silent : Searched
+  unfit : Searched
+  fit : Fit → Searched
+
+abbrev pub answered : Option Fit → List Message → Searched
+answered (some f) ms = fit f
+answered none [] = silent
+answered none (m ∷ ms) = unfit
+
+-- 25, 29, and 0 with the message's index and the clause
+abbrev pub searchNumber : Searched → ℕ
+searchNumber silent = mailboxEmpty
+searchNumber unfit = noFit
+searchNumber (fit f) = 0
+
 -- "That message leaves, the rest keep their order. .. Place becomes t"
-abbrev pub receivesFit : State → Option Fit → Answer Effect
-receivesFit st none = refused noFit
-receivesFit st (some f) = done (record {
+abbrev pub receivesBy : State → Searched → Answer Effect
+receivesBy st silent = refused mailboxEmpty
+receivesBy st unfit = refused noFit
+receivesBy st (fit f) = done (record {
   process = moved (withMessage (st .process) (f .clause) (f .message)) (f .clause .target);
   mail = leaving (f .index);
   sent = none;
   born = none;
 })
 
--- "The next n ops are its clauses"
-abbrev pub firstFit : List Op → State → Op → Option Fit
-firstFit code st o = search (take (o .small) (drop (st .process .place + 1) code)) 0 (st .mail)
-
 unfoldable pub receives : List Op → State → Op → Answer Effect
-receives code st o = receivesFit st (firstFit code st o)
+receives code st o = receivesBy st (answered (firstFit code st o) (st .mail))

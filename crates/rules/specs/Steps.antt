@@ -4,7 +4,7 @@
 --   meaning s      the action that a step record stands for
 --   decide n a     the local decision: what the owner does, from its own state, its code and the oldest signal of one row
 --   commit n a e   the node after effect e of action a
---   rule n a       the checks 20 to 28 in their order, then the commit
+--   rule n a       the checks 20 to 29 in their order, then the commit
 --   step n a       a step: 31, then the rule
 --   played n l     steps played until one is refused
 --   play n l       a schedule (action trace): 31, 32, then played
@@ -138,7 +138,7 @@ commit n a e =
 
 -- ---- a step
 
--- all that is looked at before 27: "20, 21, 22 or 23, then the rest, of which no two can meet"; 22, 24, 25 and 28 are the decision's
+-- all that is looked at before 27: "20, 21, 22 or 23, then the rest, of which no two can meet"; 22, 24, 25, 28 and 29 are the decision's
 unfoldable pub ready : Node → Action → Answer Effect
 ready n a =
     need (numbered a) badNumber

@@ -4,7 +4,7 @@
 --   expiresIf st a f       the answer of a timeout at a recv with `after` a, where the search gives f
 --   expires code st        the answer of a timeout
 --   isLive s               stage s is that of a live process
---   silent cs ms           no message of ms fits one of the clauses cs
+--   noneFits cs ms         no message of ms fits one of the clauses cs
 use mathlib.Core.Bool.{Bool, true, false, not, _&&_}
 use mathlib.Core.List.{List}
 use mathlib.Core.Option.{Option, none, some}
@@ -46,8 +46,8 @@ isLive Live = true
 isLive Closing = false
 isLive Gone = false
 
-abbrev pub silent : List Op → List Message → Bool
-silent cs ms = allOf (λ m. allOf (λ c. not (fits c m)) cs) ms
+abbrev pub noneFits : List Op → List Message → Bool
+noneFits cs ms = allOf (λ m. allOf (λ c. not (fits c m)) cs) ms
 
 abbrev pub expiresIn : Stage → List Op → State → Answer Effect
 expiresIn Unborn code st = refused ownerUnborn

@@ -3,7 +3,7 @@
 --   Cleared e      and nothing refuses it but a search that finds no message
 --   turn-refused   a refusal is the rule's;  turn-cleared, turn-searching  without one the decision is cleared
 --   turn-done      a decision that searches no mailbox is committed
---   turn-searched  where the mailbox is searched by a run, the first fit decides; late-found, late-missed  by a timeout
+--   run-searched, timeout-searched   where the mailbox is searched, what the search answers decides; search-hit, search-over  what it answers
 use mathlib.Core.Bool.{Bool, true, false, not, So, cond, _&&_, false≢true}
 use mathlib.Core.List.{List, [], _∷_}
 use mathlib.Core.Logic.{_⊎_, inl, inr, ⊎-elim}
@@ -40,17 +40,18 @@ use Rattle.node.specs.Processes.{fresh, moved}
 use Rattle.node.specs.Rows.{noSignal, cellOf, oldest}
 use Rattle.node.specs.Values.{pid, isNumber}
 use Rattle.node.proofs.Contents.{messages-length, messages-at, signals-length}
-use Rattle.rules.specs.Answers.{Answer, refused, done, need, badNumber, ownerUnborn, noneInFlight, noFit, pairFull, notUnborn, noTimeout}
+use Rattle.rules.specs.Answers.{Answer, refused, done, need, badNumber, ownerUnborn, noneInFlight, mailboxEmpty, noFit, pairFull, notUnborn, noTimeout}
 use Rattle.rules.specs.Effects.{State, unchanged, joining, leaving, Effect, Sending, Birth}
 use Rattle.rules.specs.Nodes.{Sound, behavioursOf, code, process, mailbox, row}
-use Rattle.rules.specs.Receive.{Fit, fits, firstClause, search, withMessage, receivesFit, receives}
+use Rattle.rules.specs.Receive.{Fit, fits, firstClause, search, withMessage, Searched, silent, unfit, fit, answered, searchNumber, receivesBy, receives}
 use Rattle.rules.specs.Run.{runs}
 use Rattle.rules.specs.Steps.{Action, run, arrive, timeout, owner, isUnborn, numbered, ownerBorn, signalWaits, pairHasRoom, numberFree, incoming, decide, withArrival, withSending, withMail}
 use Rattle.rules.specs.Steps.{withoutMail, withBirth, commit, rule}
 use Rattle.rules.specs.Timeout.{behindClauses, atAfter, expiresIf, expiresLive, expires}
 use Rattle.rules.proofs.Commute.{incoming-oldest}
+use Rattle.receive.specs.Found.{afterSearch, fitIndex}
 use Rattle.receive.specs.Waiting.{timeoutRefusal}
-use Rattle.receive.proofs.Laws.{message-turn, message-end, clause-hit, clause-miss, clause-end}
+use Rattle.receive.proofs.Laws.{message-turn, message-end, clause-hit, clause-miss, clause-end, soFar, answered-none, answered-fit}
 use Rattle.rules.proofs.Living.{alive}
 use Rattle.rules.proofs.Keeps.{MailOk, Keeps, NotBoth}
 use Rattle.rules.proofs.Commits.{Parts, parts-of, decided-keeps, owner-number}
@@ -169,7 +170,7 @@ module _ (n : Node) (whole : Parts n) (i : ℕ) (number : So (isNumber i)) (live
       }
 
 -- without messages no fit is found
-none-received : (code : List Op) (st : State) → receives code (stateOf (st .process) []) (getD code (st .process .place) noOp) ≡ refused noFit
+none-received : (code : List Op) (st : State) → receives code (stateOf (st .process) []) (getD code (st .process .place) noOp) ≡ refused mailboxEmpty
 unfolding receives
 none-received code st = refl
 
@@ -186,10 +187,11 @@ made n ps mail flight = record {
   cells = flight .cells;
 }
 
--- what is answered where the search of a mailbox gives f
-abbrev pub searched : Node → Action → Process → Option Fit → Answer Node
-searched n a p none = refused noFit
-searched n a p (some f) = done (commit n a (record { process = moved (withMessage p (f .clause) (f .message)) (f .clause .target); mail = leaving (f .index); sent = none; born = none }))
+-- what is answered where the search of a mailbox answers s
+abbrev pub searched : Node → Action → Process → Searched → Answer Node
+searched n a p silent = refused mailboxEmpty
+searched n a p unfit = refused noFit
+searched n a p (fit f) = done (commit n a (record { process = moved (withMessage p (f .clause) (f .message)) (f .clause .target); mail = leaving (f .index); sent = none; born = none }))
 
 module _ (n : Node) (sound : Sound n) {a : Action} (t : Decoded) (m : Means a t) where
   -- ---- what is read
@@ -229,6 +231,10 @@ module _ (n : Node) (sound : Sound n) {a : Action} (t : Decoded) (m : Means a t)
 
   pub mail-size : length M ≡ W
   mail-size = messages-length (blockOf 16 (t .at) (mailShelf n))
+
+  -- what the search of its mailbox answers
+  abbrev pub S : Searched
+  S = answered (search (clausesOf n P) 0 M) M
 
   whole : Parts n
   whole = parts-of n sound
@@ -629,17 +635,18 @@ module _ (n : Node) (sound : Sound n) {a : Action} (t : Decoded) (m : Means a t)
         op-here : getD codeHere (P .place) noOp ≡ O
         op-here = cleared-ready .only h .2 .op (at-recv .inside)
 
-        pub search-decided : t .expires ≡ false → decide n a ≡ receivesFit (stateOf P M) (search (clausesOf n P) 0 M)
+        pub search-decided : t .expires ≡ false → decide n a ≡ receivesBy (stateOf P M) S
         unfolding receives
         search-decided early = cleared-ready .decided ∙ rw (h, early, op-here)
 
-        pub turn-searched : t .expires ≡ false → rule n a ≡ searched n a P (search (clausesOf n P) 0 M)
+        pub turn-searched : t .expires ≡ false → rule n a ≡ searched n a P S
         unfolding pairHasRoom numberFree
-        turn-searched early = go (search (clausesOf n P) 0 M) (search-decided early)
+        turn-searched early = go S (search-decided early)
           where
-            go : (f : Option Fit) → decide n a ≡ receivesFit (stateOf P M) f → rule n a ≡ searched n a P f
-            go none q = rule-undecided n a (cleared-ready .numbers) (cleared-ready .awake) (cleared-ready .waits) noFit q
-            go (some f) q = rule-done n a (cleared-ready .numbers) (cleared-ready .awake) (cleared-ready .waits) _ q refl refl
+            go : (s : Searched) → decide n a ≡ receivesBy (stateOf P M) s → rule n a ≡ searched n a P s
+            go silent q = rule-undecided n a (cleared-ready .numbers) (cleared-ready .awake) (cleared-ready .waits) mailboxEmpty q
+            go unfit q = rule-undecided n a (cleared-ready .numbers) (cleared-ready .awake) (cleared-ready .waits) noFit q
+            go (fit f) q = rule-done n a (cleared-ready .numbers) (cleared-ready .awake) (cleared-ready .waits) _ q refl refl
 
         -- a timeout: the search gives f
         late-decided : t .expires ≡ true → (f : Option Fit) → search (clausesOf n P) 0 M ≡ f → decide n a
@@ -720,7 +727,7 @@ module _ (n : Node) (sound : Sound n) {a : Action} (t : Decoded) (m : Means a t)
         born = refl;
       }
 
-      pub committed-found : (h : e .receives ≡ true) → t .expires ≡ false → (f : Fit) → search (clausesOf n P) 0 M ≡ some f →
+      committed-found : (h : e .receives ≡ true) → t .expires ≡ false → (f : Fit) → S ≡ fit f →
           Committed (moved (withMessage P (f .clause) (f .message)) (f .clause .target)) (16 * t .at + f .index)
       unfolding searchedOf waitingNext
       committed-found h early f found =
@@ -748,9 +755,18 @@ module _ (n : Node) (sound : Sound n) {a : Action} (t : Decoded) (m : Means a t)
             born = rw (only .3);
           }
 
+      -- a run: it is refused, or the message that fits leaves
+      pub early-searched : (h : e .receives ≡ true) → t .expires ≡ false → Verdict (searchNumber S) (afterSearch P S) (16 * t .at + fitIndex (min W 16) S)
+      early-searched h early = go S refl
+        where
+          go : (s : Searched) → S ≡ s → Verdict (searchNumber s) (afterSearch P s) (16 * t .at + fitIndex (min W 16) s)
+          go silent q = inl ((λ z. omega (arith, z)), turn-searched h early ∙ rw q)
+          go unfit q = inl ((λ z. omega (arith, z)), turn-searched h early ∙ rw q)
+          go (fit f) q = inr (refl, committed-found h early f q)
+
       -- a timeout, where no message fits: it is refused, or the process moves to the target of the `after`
-      pub late-missed : (h : e .receives ≡ true) → t .expires ≡ true → search (clausesOf n P) 0 M ≡ none → (s : ℕ) → top ≤ s →
-          Verdict (timeoutRefusal noFit (P .place) (O .small) L (behindOp n P)) (moved P (behindOp n P .target)) s
+      late-missed : (h : e .receives ≡ true) → t .expires ≡ true → search (clausesOf n P) 0 M ≡ none → (s : ℕ) → top ≤ s →
+          Verdict (timeoutRefusal unfit (P .place) (O .small) L (behindOp n P)) (moved P (behindOp n P .target)) s
       unfolding timeoutRefusal pairHasRoom numberFree
       late-missed h late missed s above = go (ltb (P .place + 1 + O .small) L) refl (eqb (behindOp n P .number) afterOp) refl
         where
@@ -778,6 +794,24 @@ module _ (n : Node) (sound : Sound n) {a : Action} (t : Decoded) (m : Means a t)
                   born = rw (only .3);
                 },
               )
+
+      -- a timeout: 28 where a message fits
+      late-searched : (h : e .receives ≡ true) → t .expires ≡ true → Verdict (timeoutRefusal S (P .place) (O .small) L (behindOp n P)) (moved P (behindOp n P .target)) top
+      unfolding timeoutRefusal
+      late-searched h late = go (search (clausesOf n P) 0 M) refl
+        where
+          either : (b : Bool) → need {A = Effect} b noTimeout (refused noTimeout) ≡ refused noTimeout
+          either true = refl
+          either false = refl
+
+          -- whether there was no message, or none that fits, makes no difference
+          unfit-as : (ms : List Message) → timeoutRefusal unfit (P .place) (O .small) L (behindOp n P) ≡ timeoutRefusal (answered none ms) (P .place) (O .small) L (behindOp n P)
+          unfit-as [] = refl
+          unfit-as (m ∷ ms) = refl
+
+          go : (f : Option Fit) → search (clausesOf n P) 0 M ≡ f → Verdict (timeoutRefusal (answered f M) (P .place) (O .small) L (behindOp n P)) (moved P (behindOp n P .target)) top
+          go none q = subst (λ (k : ℕ). Verdict k (moved P (behindOp n P .target)) top) (unfit-as M) (late-missed h late q top (omega arith))
+          go (some f) q = inl ((λ z. omega (arith, z)), late-refused h late (some f) q (either (atAfter codeHere (P .place))))
 
       -- who searches is live, and has at most 16 messages
       pub waiting-bound : e .receives ≡ true → W ≤ 16
@@ -982,24 +1016,11 @@ module _ (n : Node) (sound : Sound n) {a : Action} (t : Decoded) (m : Means a t)
             → firstFit ≡ some (record { index = s - 16 * t .at; message = msg; clause = getD (clausesOf n P) (c - (placeAt n P + 1)) noOp })
         fit-here f v = let r = clause-read s c from below low high in clause-hit (clausesOf n P) (s - 16 * t .at) (c - (placeAt n P + 1)) msg later (r .0) (rw (r .1) at f) v
 
-        -- by a timeout
-        pub late-found : t .expires ≡ true → fits (getD (n .ops) c noOp) msg ≡ true → AtClause (s - 16 * t .at) (c - (placeAt n P + 1)) msg → rule n a ≡ refused noTimeout
-        late-found late f v =
-            let q = looked s from below in
-            late-refused (turn-searching q) q late (some _) (fit-here f v) (either (atAfter codeHere (P .place)))
-          where
-            either : (b : Bool) → need {A = Effect} b noTimeout (refused noTimeout) ≡ refused noTimeout
-            either true = refl
-            either false = refl
-
-        -- by a run
-        pub found : t .expires ≡ false → fits (getD (n .ops) c noOp) msg ≡ true → AtClause (s - 16 * t .at) (c - (placeAt n P + 1)) msg
-            → Committed (moved (withMessage P (getD (n .ops) c noOp) msg) (getD (n .ops) c noOp .target)) s
-        found early f v =
+        pub search-hit : fits (getD (n .ops) c noOp) msg ≡ true → AtClause (s - 16 * t .at) (c - (placeAt n P + 1)) msg
+            → S ≡ fit (record { index = s - 16 * t .at; message = msg; clause = getD (n .ops) c noOp })
+        search-hit f v =
             let r = clause-read s c from below low high in
-            let q = looked s from below in
-            let done-at = committed-found (turn-searching q) q early _ (fit-here f v) in
-            subst (λ (o : Op). Committed (moved (withMessage P o msg) (o .target)) s) (sym (r .1)) (subst (Committed _) (looked-bound s from below .2) done-at)
+            answered-fit M (fit-here f v) ∙ ap (λ (o : Op). fit (record { index = s - 16 * t .at; message = msg; clause = o })) (sym (r .1))
 
         pub missed : fits (getD (n .ops) c noOp) msg ≡ false → AtClause (s - 16 * t .at) (c - (placeAt n P + 1)) msg → AtClause (s - 16 * t .at) (c + 1 - (placeAt n P + 1)) msg
         missed f v =
@@ -1014,21 +1035,21 @@ module _ (n : Node) (sound : Sound n) {a : Action} (t : Decoded) (m : Means a t)
           let e : s - 16 * t .at + 1 ≡ s + 1 - 16 * t .at = next-slot (16 * t .at) s from in
           rw e at (clause-end (clausesOf n P) (s - 16 * t .at) (c - (placeAt n P + 1)) msg later all v)
 
-    -- no message was found
-    none-fits : (q : e .receives ≡ true) (s : ℕ) → top ≤ s → AtMessage (s - 16 * t .at) → firstFit ≡ none
+    -- all messages were looked at, and none fits
+    pub search-over : (q : e .receives ≡ true) (s : ℕ) → 16 * t .at ≤ s → s ≤ top → top ≤ s → AtMessage (s - 16 * t .at) → S ≡ soFar (s - 16 * t .at)
     unfolding searchedOf
-    none-fits q s above v =
+    search-over q s from within above v =
         let x : top ≡ 16 * t .at + min W 16 = rw q in
         let few : W ≤ 16 = waiting-bound (turn-searching q) q in
-        let all : length M ≤ s - 16 * t .at = rw mail-size (omega (arith, x, few, above)) in
-        message-end M (clausesOf n P) (s - 16 * t .at) (noMessage .message) all v
+        let all : length M ≡ s - 16 * t .at = mail-size ∙ omega (arith, x, few, from, within, above) in
+        answered-none M (message-end M (clausesOf n P) (s - 16 * t .at) (noMessage .message) (omega (arith, all)) v) ∙ ap soFar all
 
-    pub unfound : (q : e .receives ≡ true) → t .expires ≡ false → (s : ℕ) → top ≤ s → AtMessage (s - 16 * t .at) → rule n a ≡ refused noFit
-    unfound q early s above v = turn-searched (turn-searching q) q early ∙ rw (none-fits q s above v)
+    -- the search is over: what a run and a timeout do
+    pub run-searched : e .receives ≡ true → t .expires ≡ false → Verdict (searchNumber S) (afterSearch P S) (16 * t .at + fitIndex (min W 16) S)
+    run-searched q early = early-searched (turn-searching q) q early
 
-    pub late-unfound : (q : e .receives ≡ true) → t .expires ≡ true → (s : ℕ) → top ≤ s → AtMessage (s - 16 * t .at) →
-        Verdict (timeoutRefusal noFit (P .place) (O .small) L (behindOp n P)) (moved P (behindOp n P .target)) s
-    late-unfound q late s above v = late-missed (turn-searching q) q late (none-fits q s above v) s above
+    pub timeout-searched : e .receives ≡ true → t .expires ≡ true → Verdict (timeoutRefusal S (P .place) (O .small) L (behindOp n P)) (moved P (behindOp n P .target)) top
+    timeout-searched q late = late-searched (turn-searching q) q late
 
     -- nothing was looked for
     pub unsought : e .receives ≡ false → (k : ℕ) → Judges k → Verdict k (e .process) (16 * t .at)

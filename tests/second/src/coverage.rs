@@ -5,15 +5,15 @@ use crate::node::{
     PAIR_LIMIT, PROCESSES,
 };
 use crate::plan::{self, op_word, Fault, Misplaced, OPERANDS};
-use crate::step::{self, Effect, Step};
+use crate::step::{self, Effect, Search, Step};
 use crate::steps::LINE_LIMIT;
 use crate::text::Refused;
 use std::collections::BTreeMap;
 use std::fmt;
 
 /// Every refusal number that the program can tell.
-pub const REFUSALS: [u8; 16] = [
-    10, 11, 12, 13, 14, 15, 20, 21, 22, 23, 24, 25, 26, 27, 28, 32,
+pub const REFUSALS: [u8; 17] = [
+    10, 11, 12, 13, 14, 15, 20, 21, 22, 23, 24, 25, 26, 27, 28, 29, 32,
 ];
 
 /// The stages; an unborn process is counted where a listing leaves it out.
@@ -31,7 +31,7 @@ pub const SIGNALS: [&str; 7] = [
 ];
 
 /// Finer events, in the order of the table. A count of an event that is not here is a mistake.
-pub const DETAILS: [&str; 148] = [
+pub const DETAILS: [&str; 153] = [
     "run at place N",
     "closing told a link",
     "closing told a watcher",
@@ -147,7 +147,6 @@ pub const DETAILS: [&str; 148] = [
     "24 note",
     "24 down",
     "25 empty mailbox",
-    "25 mail without a fit",
     "25 at a recv with after",
     "26 send",
     "26 exit",
@@ -170,6 +169,12 @@ pub const DETAILS: [&str; 148] = [
     "28 recv that ends its code",
     "28 first message fits",
     "28 later message fits",
+    "29 mail without a fit",
+    "29 at a recv with after",
+    "29 values only",
+    "29 notes only",
+    "29 downs only",
+    "29 full mailbox",
     "listing with mail=16",
     "listing with a note",
     "listing with a down",
@@ -684,10 +689,12 @@ impl Coverage {
                 Stage::Gone => "26 arrive, monitor at gone",
                 _ => "26 arrive, monitor at closing",
             }),
-            (step::NO_FIT | step::PAIR_FULL | step::NOT_UNBORN, Step::Run(process)) => {
+            (step::MAILBOX_EMPTY, _) => self.count_empty_mailbox(node, step.owner()),
+            (step::PAIR_FULL | step::NOT_UNBORN, Step::Run(process)) => {
                 self.count_run_refusal(node, process);
             }
             (step::NO_TIMEOUT, _) => self.count_timeout_refusal(node, step.owner()),
+            (step::NO_FIT, _) => self.count_no_fit(node, step.owner()),
             _ => {}
         }
     }
@@ -729,30 +736,37 @@ impl Coverage {
             });
         };
         let awaited = step::awaited(node, process).expect("a process at a recv");
-        match (awaited.after, awaited.fit) {
-            (Some(_), Some(0)) => self.detail("28 first message fits"),
-            (Some(_), Some(_)) => self.detail("28 later message fits"),
-            (Some(_), None) => panic!("28 where nothing stands against the timeout"),
-            (None, None) => {
+        match (awaited.after, awaited.search) {
+            (Some(_), Search::Fit(0, _)) => self.detail("28 first message fits"),
+            (Some(_), Search::Fit(..)) => self.detail("28 later message fits"),
+            (Some(_), _) => panic!("28 where nothing stands against the timeout"),
+            (None, Search::Fit(..)) => {}
+            (None, _) => {
                 self.detail("28 recv without after");
                 let ends = live.place + count + 1 == length;
                 self.detail_if(ends, "28 recv that ends its code");
             }
-            (None, Some(_)) => {}
         }
     }
 
-    fn count_no_fit(&mut self, node: &Node, process: u8) {
-        self.detail(if node.live(process).mailbox.is_empty() {
-            "25 empty mailbox"
-        } else {
-            "25 mail without a fit"
-        });
-        let awaited = step::awaited(node, process).expect("a process at a recv");
-        self.detail_if(awaited.after.is_some(), "25 at a recv with after");
+    fn count_empty_mailbox(&mut self, node: &Node, process: u8) {
+        self.detail("25 empty mailbox");
+        let after = waits_with_after(node, process);
+        self.detail_if(after, "25 at a recv with after");
     }
 
-    /// Counts a refusal of 25, 26 or 27 by the op, or the closing process, that met it.
+    fn count_no_fit(&mut self, node: &Node, process: u8) {
+        self.detail("29 mail without a fit");
+        let after = waits_with_after(node, process);
+        self.detail_if(after, "29 at a recv with after");
+        let mailbox = &node.live(process).mailbox;
+        self.detail_if(mailbox.iter().all(is_value), "29 values only");
+        self.detail_if(mailbox.iter().all(is_note), "29 notes only");
+        self.detail_if(mailbox.iter().all(is_down), "29 downs only");
+        self.detail_if(mailbox.len() == MAILBOX_LIMIT, "29 full mailbox");
+    }
+
+    /// Counts a refusal of 26 or 27 by the op, or the closing process, that met it.
     fn count_run_refusal(&mut self, node: &Node, process: u8) {
         if let Stage::Closing(closing) = node.stage(process) {
             self.detail(if closing.links.is_empty() {
@@ -765,7 +779,6 @@ impl Coverage {
         let live = node.live(process);
         let own = |r: usize| live.registers[r] == Value::Pid(process);
         match node.current_op(process) {
-            Some(Op::Recv(_)) => self.count_no_fit(node, process),
             Some(Op::Send(r, _)) => {
                 self.detail("26 send");
                 self.detail_if(own(r), "26 pair with itself");
@@ -790,6 +803,16 @@ impl Coverage {
             _ => {}
         }
     }
+}
+
+/// Whether a process that is live at a recv may give up waiting.
+fn waits_with_after(node: &Node, process: u8) -> bool {
+    let awaited = step::awaited(node, process).expect("a process at a recv");
+    awaited.after.is_some()
+}
+
+fn is_value(message: &Message) -> bool {
+    matches!(message, Message::Value(_))
 }
 
 fn is_note(message: &Message) -> bool {

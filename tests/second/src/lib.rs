@@ -1,4 +1,4 @@
-//! A second interpreter of document 01 (the open garage node) and of requests M-100 to M-103 of
+//! A second interpreter of document 01 (the open garage node) and of requests M-100 to M-104 of
 //! document 02, with a seeded generator of cases. It shares no code and no tables with the proved
 //! crates, so that the two can be compared.
 

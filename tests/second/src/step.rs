@@ -1,5 +1,5 @@
 //! The step rules of document 01, sections "Steps" and "The three hands", and of requests M-100 to
-//! M-102 of document 02.
+//! M-102 and M-104 of document 02.
 //! Every function looks for a refusal first and changes the node only afterwards, because "A
 //! refused step leaves the node unchanged".
 
@@ -31,10 +31,11 @@ pub const OWNER_UNBORN: u8 = 21;
 pub const RUN_OF_GONE: u8 = 22;
 pub const NONE_IN_FLIGHT: u8 = 23;
 pub const MAILBOX_FULL: u8 = 24;
-pub const NO_FIT: u8 = 25;
+pub const MAILBOX_EMPTY: u8 = 25;
 pub const PAIR_FULL: u8 = 26;
 pub const NOT_UNBORN: u8 = 27;
 pub const NO_TIMEOUT: u8 = 28;
+pub const NO_FIT: u8 = 29;
 
 /// What an accepted step did. The rules do not need it; coverage counts it.
 #[derive(Clone, Copy, Debug, PartialEq, Eq)]
@@ -346,8 +347,13 @@ fn stop(node: &mut Node, process: u8, r: usize) {
 /// to r; of a note the sender goes to r, then the reason to s. Place becomes t."; "24 and recv treat
 /// it [a down] like a note"
 fn recv(node: &mut Node, process: u8, count: usize) -> Result<Effect, u8> {
-    // "25 recv without a fit"
-    let (index, clause) = first_fit(node, process, count).ok_or(NO_FIT)?;
+    let (index, clause) = match search(node, process, count) {
+        Search::Fit(index, clause) => (index, clause),
+        // "25 keeps the empty mailbox."
+        Search::Empty => return Err(MAILBOX_EMPTY),
+        // "29, in 25's place in the order, when the mailbox has messages and none fits."
+        Search::Unfit => return Err(NO_FIT),
+    };
     let after = after_of(node, process, count).is_some();
     let live = node.live_mut(process);
     let message = live.mailbox.remove(index);
@@ -367,9 +373,25 @@ fn recv(node: &mut Node, process: u8, count: usize) -> Result<Effect, u8> {
     })
 }
 
-/// "Messages are tried in mailbox order and, for each, clauses in their order; the first fit wins."
-fn first_fit(node: &Node, process: u8, count: usize) -> Option<(usize, Clause)> {
+/// What the search of a mailbox says.
+#[derive(Clone, Copy, Debug, PartialEq, Eq)]
+pub enum Search {
+    /// It has no message.
+    Empty,
+    /// It has messages, and none fits a clause.
+    Unfit,
+    /// The message at this index is the first that fits, and this clause the first that it fits.
+    Fit(usize, Clause),
+}
+
+/// "Messages are tried in mailbox order and, for each, clauses in their order; the first fit wins.";
+/// "a row that hears nothing from one that hears the wrong thing. The search of the mailbox has to
+/// say which"
+fn search(node: &Node, process: u8, count: usize) -> Search {
     let live = node.live(process);
+    if live.mailbox.is_empty() {
+        return Search::Empty;
+    }
     let clauses = &node.code(live.behaviour)[live.place + 1..=live.place + count];
     for (index, message) in live.mailbox.iter().enumerate() {
         for op in clauses {
@@ -377,11 +399,11 @@ fn first_fit(node: &Node, process: u8, count: usize) -> Option<(usize, Clause)> 
                 panic!("recv is followed by {op:?} instead of a clause");
             };
             if fits(clause.pattern, message) {
-                return Some((index, *clause));
+                return Search::Fit(index, *clause);
             }
         }
     }
-    None
+    Search::Unfit
 }
 
 /// "k is any (notes too), int, atom, pid, note or one exact V (values only)"; "24 and recv treat it
@@ -404,7 +426,7 @@ fn fits(pattern: Pattern, message: &Message) -> bool {
 fn timeout(node: &mut Node, process: u8) -> Result<Effect, u8> {
     let awaited = awaited(node, process).ok_or(NO_TIMEOUT)?;
     let target = awaited.after.ok_or(NO_TIMEOUT)?;
-    if awaited.fit.is_some() {
+    if let Search::Fit(..) = awaited.search {
         return Err(NO_TIMEOUT);
     }
     let live = node.live_mut(process);
@@ -417,8 +439,7 @@ fn timeout(node: &mut Node, process: u8) -> Result<Effect, u8> {
 pub struct Awaited {
     /// The t of the recv's `after`, if it has one.
     pub after: Option<usize>,
-    /// The index of the first message that fits a clause, if one does.
-    pub fit: Option<usize>,
+    pub search: Search,
 }
 
 /// What a process waits for that is live at a recv; None for every other one.
@@ -431,7 +452,7 @@ pub fn awaited(node: &Node, process: u8) -> Option<Awaited> {
     };
     Some(Awaited {
         after: after_of(node, process, count),
-        fit: first_fit(node, process, count).map(|(index, _)| index),
+        search: search(node, process, count),
     })
 }
 

@@ -265,7 +265,7 @@ fn note_goes_to_r_then_s() {
     assert!(process(&out, 2)
         .contains("place=0 r0=i0 r1=i0 r2=a9 r3=i0 trap=1 links= watches= watchers= mail=0"));
     let out = run(&code("clause,a9,2,2,0"), words);
-    assert_eq!(answer(&out), "accepted=5 refused=25");
+    assert_eq!(answer(&out), "accepted=5 refused=29");
 }
 
 #[test]

@@ -484,16 +484,104 @@ fn refusal_24_for_a_note_keeps_the_link_and_the_signal() {
     assert_eq!(flights(&out), "flight=1,2,1 signal=exit,p2,1");
 }
 
+/// Process 1 waits for an integer or a note, with an `after`; process 2 sends it what is in the row.
+fn waiting(row: &[&str]) -> String {
+    let mut sends = vec!["set,0,p1".to_string()];
+    for value in row {
+        sends.extend([format!("set,1,{value}"), "send,0,1".to_string()]);
+    }
+    let sends: Vec<&str> = sends.iter().map(String::as_str).collect();
+    let waits = ["recv,2", "clause,int,1,1,4", "clause,note,1,1,4", "after,4"];
+    plan(&[&waits, &sends], &[(1, 1), (2, 2)])
+}
+
+/// The steps by which the values of such a row are sent and join the mailbox of process 1.
+fn delivered(row: &[&str]) -> String {
+    format!("run=2 {}", "run=2 run=2 arrive=1,2 ".repeat(row.len()))
+}
+
 #[test]
-fn refusal_25_recv_without_a_fit() {
+fn refusal_25_empty_mailbox() {
+    let out = run(&waiting(&["i5"]), "run=1");
+    assert_eq!(answer(&out), "accepted=0 refused=25");
+    // What is in flight has not arrived.
+    let out = run(&waiting(&["i5"]), "run=2 run=2 run=2 run=1");
+    assert_eq!(answer(&out), "accepted=3 refused=25");
+    assert_eq!(flights(&out), "flight=2,1,1 signal=msg,i5");
+    // The one message that fits has been taken.
     let text = plan(
-        &[&["set,0,p2", "send,0,0"], &["recv,1", "clause,int,0,0,0"]],
+        &[&["set,0,p2", "send,0,1"], &["recv,1", "clause,int,0,0,0"]],
         &[(1, 1), (2, 2)],
     );
-    assert_eq!(answer(&run(&text, "run=2")), "accepted=0 refused=25");
-    let out = run(&text, "run=1 run=1 arrive=2,1 run=2");
-    assert_eq!(answer(&out), "accepted=3 refused=25");
-    assert!(process(&out, 2).ends_with("mail=1 message=p2"));
+    let out = run(&text, "run=1 run=1 arrive=2,1 run=2 run=2");
+    assert_eq!(answer(&out), "accepted=4 refused=25");
+}
+
+#[test]
+fn refusal_29_mail_without_a_fit() {
+    let rows: [&[&str]; 3] = [&["a5"], &["p5", "a5"], &["a5"; 8]];
+    for row in rows {
+        let (text, words) = (waiting(row), delivered(row));
+        let before = run(&text, &words);
+        let out = run(&text, &format!("{words}run=1"));
+        assert!(answer(&out).ends_with("refused=29"), "{row:?}");
+        assert_eq!(process(&out, 1), process(&before, 1), "{row:?}");
+    }
+    let row: &[&str] = &["a5", "i5"];
+    let out = run(&waiting(row), &format!("{}run=1", delivered(row)));
+    assert_eq!(answer(&out), "accepted=8 refused=0");
+    assert!(process(&out, 1).ends_with("mail=1 message=a5"));
+}
+
+#[test]
+fn refusal_29_full_mailbox() {
+    let text = plan(
+        &[
+            &["set,0,p2", "send,0,0", "jump,1"],
+            &["recv,1", "clause,int,0,0,0"],
+        ],
+        &[(1, 1), (2, 2)],
+    );
+    let fill = "run=1 arrive=2,1 run=1 ".repeat(16);
+    let out = run(&text, &format!("run=1 {fill}run=2"));
+    assert_eq!(answer(&out), "accepted=49 refused=29");
+    assert!(process(&out, 2).contains("mail=16 message=p2"));
+}
+
+/// Process 1 traps, watches process 2 and waits, with an `after`; process 2 sends it an exit and
+/// stops.
+fn trapping(clause: &str) -> String {
+    let waits = [
+        "trap,1",
+        "set,0,p2",
+        "monitor,0",
+        "recv,1",
+        clause,
+        "after,6",
+    ];
+    let ends = ["set,0,p1", "exit,0,0", "stop,0"];
+    plan(&[&waits, &ends], &[(1, 1), (2, 2)])
+}
+
+/// The six steps of such a plan by which a note joins the mailbox of process 1.
+const NOTED: &str = "run=1 run=1 run=1 run=2 run=2 arrive=1,2";
+
+/// The ten steps by which a note and then a down join it.
+const TOLD: &str = "run=1 run=1 run=1 arrive=2,1 run=2 run=2 run=2 run=2 arrive=1,2 arrive=1,2";
+
+#[test]
+fn refusal_29_notes_and_downs() {
+    let out = run(&trapping("clause,down,1,1,0"), &format!("{NOTED} run=1"));
+    assert_eq!(answer(&out), "accepted=6 refused=29");
+    assert!(process(&out, 1).ends_with("mail=1 note=p2,p1"));
+    let out = run(&trapping("clause,int,1,1,0"), &format!("{TOLD} run=1"));
+    assert_eq!(answer(&out), "accepted=10 refused=29");
+    assert!(process(&out, 1).ends_with("mail=2 note=p2,p1 down=p2,p1"));
+    // The clause takes the note, and the down is left.
+    let text = trapping("clause,note,1,1,3");
+    let out = run(&text, &format!("{TOLD} run=1 run=1"));
+    assert_eq!(answer(&out), "accepted=11 refused=29");
+    assert!(process(&out, 1).ends_with("mail=1 down=p2,p1"));
 }
 
 #[test]
@@ -544,22 +632,6 @@ fn refusal_27_not_unborn() {
     }
 }
 
-/// Process 1 waits for an integer or a note, with an `after`; process 2 sends it what is in the row.
-fn waiting(row: &[&str]) -> String {
-    let mut sends = vec!["set,0,p1".to_string()];
-    for value in row {
-        sends.extend([format!("set,1,{value}"), "send,0,1".to_string()]);
-    }
-    let sends: Vec<&str> = sends.iter().map(String::as_str).collect();
-    let waits = ["recv,2", "clause,int,1,1,4", "clause,note,1,1,4", "after,4"];
-    plan(&[&waits, &sends], &[(1, 1), (2, 2)])
-}
-
-/// The steps by which the values of such a row are sent and join the mailbox of process 1.
-fn delivered(row: &[&str]) -> String {
-    format!("run=2 {}", "run=2 run=2 arrive=1,2 ".repeat(row.len()))
-}
-
 #[test]
 fn refusal_28_message_that_fits() {
     let rows: [&[&str]; 4] = [
@@ -585,35 +657,27 @@ fn refusal_28_message_that_fits() {
 
 #[test]
 fn refusal_28_note_or_down_that_fits() {
-    // Process 1 traps, watches process 2 and waits; process 2 sends it an exit or stops.
-    let text = |clause: &'static str| {
-        let waits = [
-            "trap,1",
-            "set,0,p2",
-            "monitor,0",
-            "recv,1",
-            clause,
-            "after,6",
-        ];
-        let ends = ["set,0,p1", "exit,0,0", "stop,0"];
-        plan(&[&waits, &ends], &[(1, 1), (2, 2)])
-    };
-    let note = "run=1 run=1 run=1 run=2 run=2 arrive=1,2 timeout=1";
-    let down =
-        "run=1 run=1 run=1 arrive=2,1 run=2 run=2 run=2 run=2 arrive=1,2 arrive=1,2 timeout=1";
-    let ends_with = |clause, words: &str| answer(&run(&text(clause), words));
+    let ends_with =
+        |clause, words: &str| answer(&run(&trapping(clause), &format!("{words} timeout=1")));
     for clause in ["clause,note,1,1,0", "clause,any,1,1,0"] {
-        assert_eq!(ends_with(clause, note), "accepted=6 refused=28", "{clause}");
+        assert_eq!(
+            ends_with(clause, NOTED),
+            "accepted=6 refused=28",
+            "{clause}"
+        );
     }
     for clause in ["clause,down,1,1,0", "clause,note,1,1,0", "clause,any,1,1,0"] {
         assert_eq!(
-            ends_with(clause, down),
+            ends_with(clause, TOLD),
             "accepted=10 refused=28",
             "{clause}"
         );
     }
-    assert_eq!(ends_with("clause,down,1,1,0", note), "accepted=7 refused=0");
-    assert_eq!(ends_with("clause,int,1,1,0", down), "accepted=11 refused=0");
+    assert_eq!(
+        ends_with("clause,down,1,1,0", NOTED),
+        "accepted=7 refused=0"
+    );
+    assert_eq!(ends_with("clause,int,1,1,0", TOLD), "accepted=11 refused=0");
 }
 
 #[test]

@@ -3,7 +3,7 @@ use mathlib.Core.Bool.{Bool, true, false, cond, false≢true}
 use mathlib.Core.List.{List, map}
 use mathlib.Core.Logic.{_⊎_, inl, inr, ⊎-elim}
 use mathlib.Core.Path.{_≡_, refl, sym, _∙_, ap, subst}
-use Prim.Native.Nat.{ℕ, _+_, _-_, _*_, _≤_, _<_, min}
+use Prim.Native.Nat.{ℕ, suc, _+_, _-_, _*_, _≤_, _<_, min}
 use native.Mathlib.Omega.{arith}
 use borrow.Author.Needs.{needs, fits-under}
 use mir.Syntax.{w64}
@@ -18,7 +18,10 @@ use Rattle.actions.specs.declared.Decoded.{Decoded}
 use Rattle.actions.proofs.Decoding.{Means, meant}
 use Rattle.decisions.specs.declared.Decision.{Decision}
 use Rattle.decisions.specs.Decided.{decidedOf, pairRefusal, birthRefusal}
+use Rattle.receive.specs.declared.Found.{Found}
+use Rattle.receive.specs.Found.{foundOf, afterSearch, fitIndex}
 use Rattle.receive.specs.Waiting.{timeoutRefusal}
+use Rattle.receive.proofs.Laws.{soFar, soFar-index}
 use Rattle.node.specs.declared.Node.{Node}
 use Rattle.node.specs.declared.Op.{Op}
 use Rattle.node.specs.declared.Process.{Process}
@@ -31,35 +34,35 @@ use Rattle.node.specs.Processes.{moved}
 use Rattle.node.specs.Rows.{noSignal, cellOf}
 use Rattle.rules.proofs.Commits.{parts-of}
 use Rattle.rules.specs.Nodes.{Sound}
-use Rattle.rules.specs.Receive.{firstClause, search as searchFor}
-use Rattle.rules.specs.Answers.{refused, done, noFit, noTimeout}
+use Rattle.rules.specs.Receive.{firstClause, search as searchFor, Searched, unfit, searchNumber}
+use Rattle.rules.specs.Answers.{refused, done}
 use Rattle.rules.specs.Steps.{Action, Outcome, rule, played}
 use Rattle.engine.specs.Answers.{firstOf}
 use Rattle.turns.proofs.Changes.{cellAt, searchedOf, waitingNext, sentNext, cellNext, slotNext}
 use Rattle.engine.proofs.Laws.{Going, going, stop, more, over, look-more, look-stop, look-over, withSlots, withCells, mailOf}
 use Rattle.turns.proofs.Stores.{up-end, Moved, moved-start, moved-more, moved-end}
-use Rattle.turns.proofs.Turns.{placeAt, clausesOf, behindOp, P, O, L, C, X, W, Says, Y, Z, pairTold, birthTold, top, join}
-use Rattle.turns.proofs.Turns.{told-as-it-is, message-at, found, missed, passed, unfound, unsought, late-found, late-unfound}
+use Rattle.turns.proofs.Turns.{placeAt, clausesOf, behindOp, P, O, L, C, X, W, S, Says, Y, Z, pairTold, birthTold, top, join}
+use Rattle.turns.proofs.Turns.{told-as-it-is, message-at, missed, passed, search-hit, search-over, run-searched, timeout-searched, unsought}
 use Rattle.turns.proofs.Turns.{Verdict, Committed, made, storedMail, storedFlight, stored-cells, sentAt, stored-run, stored-birth, stored-arrival}
 use Rattle.engine.proofs.core.Statement.{statement}
 use Rattle.engine.proofs.core.Tie as tie
 
 abbrev Inv-loop2 : tie.InvT-loop2
-Inv-loop2 numbers looks node i t s k r p x op waiting w e owner to number refusal₀ next₀ first m top end message c₀ refusal next c =
-    (placeAt node p + 1 ≤ c) × (refusal ≡ refusal₀) × (next ≡ next₀)
-    × (searchFor (clausesOf node p) 0 (mailOf node k) ≡ firstClause (drop (c - (placeAt node p + 1)) (clausesOf node p)) (m - 16 * k) message
-    (searchFor (clausesOf node p) (m - 16 * k + 1) (drop (m - 16 * k + 1) (mailOf node k))))
+Inv-loop2 numbers looks node i t s k r p x op waiting w e owner to number refusal first m top count end found₀ slot message c₀ found c =
+    (placeAt node p + 1 ≤ c) × (foundOf found ≡ unfit)
+    × (searchFor (clausesOf node p) 0 (mailOf node k) ≡ firstClause (drop (c - (placeAt node p + 1)) (clausesOf node p)) (slot - 16 * k) message
+    (searchFor (clausesOf node p) (slot - 16 * k + 1) (drop (slot - 16 * k + 1) (mailOf node k))))
 
 abbrev μ-loop2 : tie.MeasureT-loop2
-μ-loop2 numbers looks node i t s k r p x op waiting w e owner to number refusal₀ next₀ first m top end message c₀ refusal next c = end - c
+μ-loop2 numbers looks node i t s k r p x op waiting w e owner to number refusal first m top count end found₀ slot message c₀ found c = end - c
 
 abbrev Inv-messages : tie.InvT-messages
-Inv-messages numbers looks node i t s k r p x op waiting w e owner to number refusal₀ next₀ first m₀ top end refusal next m =
-    (16 * k ≤ m) × (m ≤ top) × (refusal ≡ noFit)
-    × (searchFor (clausesOf node p) 0 (mailOf node k) ≡ searchFor (clausesOf node p) (m - 16 * k) (drop (m - 16 * k) (mailOf node k)))
+Inv-messages numbers looks node i t s k r p x op waiting w e owner to number refusal first m top count end found₀ slot₀ found slot =
+    (16 * k ≤ slot) × (slot ≤ top) × (foundOf found ≡ soFar (slot - 16 * k))
+    × (searchFor (clausesOf node p) 0 (mailOf node k) ≡ searchFor (clausesOf node p) (slot - 16 * k) (drop (slot - 16 * k) (mailOf node k)))
 
 abbrev μ-messages : tie.MeasureT-messages
-μ-messages numbers looks node i t s k r p x op waiting w e owner to number refusal₀ next₀ first m₀ top end refusal next m = top - m
+μ-messages numbers looks node i t s k r p x op waiting w e owner to number refusal first m top count end found₀ slot₀ found slot = top - slot
 
 abbrev Inv-loop3 : tie.InvT-loop3
 Inv-loop3 numbers looks node₀ i t s k r x waiting w e owner to number refusal first m₀ top node m =
@@ -216,39 +219,44 @@ module _ (c : Left) where
   abbrev left-by : Turn
   left-by = c .before .before .before .before .before
 
-  -- the slot where it ended
+  -- the slot where it ended, and what it answers
   abbrev stopped : ℕ
-  stopped = c .before .messages .m
+  stopped = c .before .messages .slot
 
-  abbrev Missed : Type 0
-  Missed = (c .messages-test .refusal ≡ noFit) × (lastSlot left-by ≤ stopped)
+  abbrev answer : Searched
+  answer = foundOf (c .messages-test .found)
 
-  -- a message fits: a run takes it, a timeout is refused
-  record Hit : Type 0 where
-    pub refusal : c .messages-test .refusal ≡ 0
-    pub early : T left-by .expires ≡ false → Commits left-by (c .messages-test .next) stopped
-    pub late : T left-by .expires ≡ true → rule (N left-by) (action left-by) ≡ refused noTimeout
+  record Answers : Type 0 where
+    pub is : answer ≡ S (N left-by) (N-sound left-by) (T left-by) (T-means left-by)
+    pub within : fitIndex (min (waits left-by) 16) answer ≤ min (waits left-by) 16
 
-  left-is : Missed ⊎ Hit
-  left-is =
+  answers : Answers
+  answers =
       let t = left-by in
       let v = c .before .messages .inv in
       let up = c .before .before .before .up-to in
       let end = c .before .before .clauses-end in
-      let last = last-is t (c .before .before .before .before .if1 .taken) (up .result) (up .ensures) in
+      let sought = c .before .before .before .before .if1 .taken in
+      let last = last-is t sought (up .result) (up .ensures) in
       ⊎-elim
-      (λ w. inl (w .1 ∙ v .2, subst (λ (x : ℕ). x ≤ stopped) last (w .0 .left)))
+      (λ w.
+      let above = subst (λ (x : ℕ). x ≤ stopped) last (w .0 .left) in
+      let within = subst (λ (x : ℕ). stopped ≤ x) last (v .1) in
+      let missed : answer ≡ soFar (stopped - 16 * T t .at) = ap foundOf (w .1) ∙ v .2 in
+      let none = ap (fitIndex (min (waits t) 16)) missed ∙ soFar-index (min (waits t) 16) (stopped - 16 * T t .at) in
+      record {
+        is = missed ∙ sym (search-over (N t) (N-sound t) (T t) (T-means t) (E t) (E-says t) sought stopped (v .0) within above (v .3));
+        within = omega (arith, none);
+      })
       (λ w.
       let below = subst (λ (x : ℕ). stopped < x) last (w .0 .taken) in
       let high = subst (λ (x : ℕ). w .2 .c < x) (end-is t (end .result) (end .ensures)) (w .3 .taken) in
       let fits = sym (w .5 .ensures) ∙ w .6 .taken in
-      inr (record {
-        refusal = w .8;
-        early = λ q.
-            subst (λ (p : Process). Commits t p stopped) (sym (w .9 ∙ w .7 .ensures))
-            (found (N t) (N-sound t) (T t) (T-means t) (E t) (E-says t) stopped (w .2 .c) (v .0) below (w .2 .inv .0) high q fits (w .2 .inv .3));
-        late = λ q. late-found (N t) (N-sound t) (T t) (T-means t) (E t) (E-says t) stopped (w .2 .c) (v .0) below (w .2 .inv .0) high q fits (w .2 .inv .3);
-      }))
+      let inside : stopped - 16 * T t .at ≤ min (waits t) 16 = let h = w .0 .taken in let e = up .ensures in omega (arith, h, e) in
+      record {
+        is = ap foundOf (w .7) ∙ sym (search-hit (N t) (N-sound t) (T t) (T-means t) (E t) (E-says t) stopped (w .2 .c) (v .0) below (w .2 .inv .0) high fits (w .2 .inv .2));
+        within = subst (λ (k : ℕ). k ≤ min (waits t) 16) (sym (ap (λ (f : Found). fitIndex (min (waits t) 16) (foundOf f)) (w .7))) inside;
+      })
       (c .messages-test .came)
 
 -- ---- the search is over, where there is one
@@ -283,55 +291,46 @@ module _ (c : Sought) where
       subst (λ (k : ℕ). Told sought-by k next m) (sym e) (subst (λ (q : Process). Told sought-by r q m) (sym f) (subst (λ (k : ℕ). Told sought-by r p k) (sym g) h))
 
   ends : Ends
-  unfolding timeoutRefusal
   ends =
       let t = sought-by in
+      let p = P (N t) (N-sound t) (T t) (T-means t) in
+      let s = S (N t) (N-sound t) (T t) (T-means t) in
       ⊎-elim
       (λ w.
-      let v = w .3 .inv in
       let l : Left = record {
         before = record { before = record { before = record { before = record { before = t; if1 = w .0 }; up-to = w .1 }; clauses-end = w .2 }; messages = w .3 };
         messages-test = w .4;
       } in
       let last = last-is t (w .0 .taken) (w .1 .result) (w .1 .ensures) in
+      let ended : m ≡ lastSlot t = w .13 ∙ last in
       let op = behind-is t (w .2 .result) (w .6 .result) (w .2 .ensures) (w .6 .ensures) in
-      let p = P (N t) (N-sound t) (T t) (T-means t) in
-      let tell : ℕ → ℕ = λ r. timeoutRefusal r (p .place) (clauses t) (L (N t) (N-sound t) (T t) (T-means t)) (behindOp (N t) p) in
-      let told : c .if1 .refusal ≡ tell (w .4 .refusal) = w .11 ∙ w .10 .ensures
-      ∙ (λ i. timeoutRefusal (w .4 .refusal) (p .place) (getD (N t .ops) (x-is t i) noOp .small) (getD (N t .lens) (len-is t i) 0) (op i)) in
+      let told = w .11 ∙ w .10 .ensures
+      ∙ (λ i. timeoutRefusal (answers l .is i) (p .place) (getD (N t .ops) (x-is t i) noOp .small) (getD (N t .lens) (len-is t i) 0) (op i)) in
       let moves : next ≡ moved p (behindOp (N t) p .target) = w .12 ∙ w .8 .ensures ∙ ap (λ (o : Op). moved p (o .target)) op in
       record {
         last = w .14 ∙ last;
-        within = subst (λ (x : ℕ). x ≤ lastSlot t) (sym (w .13)) (subst (λ (x : ℕ). w .3 .m ≤ x) last (v .1));
-        answer = inl (
-          w .0 .taken,
-          ⊎-elim
-              (λ u. tells (tell noFit) (moved p (behindOp (N t) p .target)) (w .3 .m) (told ∙ ap tell (u .0)) moves (w .13)
-              (late-unfound (N t) (N-sound t) (T t) (T-means t) (E t) (E-says t) (w .0 .taken) (w .5 .taken) (w .3 .m) (u .1) (v .3)))
-              (λ u. let is : c .if1 .refusal ≡ noTimeout = told ∙ ap tell (u .refusal) in inl ((λ z. omega (arith, z, is)), u .late (w .5 .taken) ∙ ap refused (sym is)))
-              (left-is l),
-        );
+        within = omega (arith, ended);
+        answer = inl (w .0 .taken, tells _ _ (lastSlot t) told moves ended (timeout-searched (N t) (N-sound t) (T t) (T-means t) (E t) (E-says t) (w .0 .taken) (w .5 .taken)));
       })
       (⊎-elim
       (λ w.
-      let v = w .3 .inv in
       let l : Left = record {
         before = record { before = record { before = record { before = record { before = t; if1 = w .0 }; up-to = w .1 }; clauses-end = w .2 }; messages = w .3 };
         messages-test = w .4;
       } in
-      let last = last-is t (w .0 .taken) (w .1 .result) (w .1 .ensures) in
+      let is = answers l .is in
+      let few = w .1 .ensures in
+      let last = last-is t (w .0 .taken) (w .1 .result) few in
+      let told : c .if1 .refusal ≡ searchNumber s = w .9 ∙ w .7 .ensures ∙ ap searchNumber is in
+      let takes : next ≡ afterSearch p s = w .10 ∙ w .6 .ensures ∙ ap (afterSearch p) is in
+      let index : w .8 .result ≡ fitIndex (min (waits t) 16) (answer l) = w .8 .ensures ∙ ap (λ (k : ℕ). fitIndex k (answer l)) few in
+      let leaves : m ≡ 16 * T t .at + fitIndex (min (waits t) 16) s = w .11 ∙ ap (λ (k : ℕ). 16 * T t .at + k) (index ∙ ap (fitIndex (min (waits t) 16)) is) in
+      let inside = answers l .within in
+      let at = w .11 in
       record {
-        last = w .9 ∙ last;
-        within = subst (λ (x : ℕ). x ≤ lastSlot t) (sym (w .8)) (subst (λ (x : ℕ). w .3 .m ≤ x) last (v .1));
-        answer = inl (
-          w .0 .taken,
-          ⊎-elim
-              (λ u.
-              let is : c .if1 .refusal ≡ noFit = w .6 ∙ u .0 in
-              inl ((λ z. omega (arith, z, is)), unfound (N t) (N-sound t) (T t) (T-means t) (E t) (E-says t) (w .0 .taken) (w .5 .left) (w .3 .m) (u .1) (v .3) ∙ ap refused (sym is)))
-              (λ u. tells 0 (w .4 .next) (w .3 .m) (w .6 ∙ u .refusal) (w .7) (w .8) (inr (refl, u .early (w .5 .left))))
-              (left-is l),
-        );
+        last = w .12 ∙ last;
+        within = omega (arith, at, index, inside, few, last);
+        answer = inl (w .0 .taken, tells _ _ _ told takes leaves (run-searched (N t) (N-sound t) (T t) (T-means t) (E t) (E-says t) (w .0 .taken) (w .5 .left)));
       })
       (λ w.
       let last = last-first t (w .0 .left) in
@@ -595,13 +594,13 @@ clauses-end-requires c κs = x-bound (c .before .before)
 messages-holds : tie.Need-messages-holds Inv-loop2 μ-loop2 Inv-messages μ-messages Inv-loop3 μ-loop3 Inv-loop4 μ-loop4 Inv-loop μ-loop
 messages-holds c =
     let e : 16 * T (c .before .before .before) .at - 16 * T (c .before .before .before) .at ≡ 0 = omega arith in
-    (omega arith, omega arith, refl, rw e)
+    (omega arith, omega arith, ap soFar (sym e), rw e)
 
-mul-slot : tie.Need-mul-slot Inv-loop2 μ-loop2 Inv-messages μ-messages Inv-loop3 μ-loop3 Inv-loop4 μ-loop4 Inv-loop μ-loop
-mul-slot c = small (let h = c .messages-test .taken in let a = at-bound (c .before .before .before .before .before) in let e = (c .before .before .before) .up-to .ensures in omega (arith, h, a, e))
+mul-held : tie.Need-mul-held Inv-loop2 μ-loop2 Inv-messages μ-messages Inv-loop3 μ-loop3 Inv-loop4 μ-loop4 Inv-loop μ-loop
+mul-held c = small (let h = c .messages-test .taken in let a = at-bound (c .before .before .before .before .before) in let e = (c .before .before .before) .up-to .ensures in omega (arith, h, a, e))
 
-element-copy-out-slot : tie.Need-element-copy-out-slot Inv-loop2 μ-loop2 Inv-messages μ-messages Inv-loop3 μ-loop3 Inv-loop4 μ-loop4 Inv-loop μ-loop
-element-copy-out-slot c = let h = c .messages-test .taken in let a = at-bound (c .before .before .before .before .before) in let e = (c .before .before .before) .up-to .ensures in omega
+element-copy-out-held : tie.Need-element-copy-out-held Inv-loop2 μ-loop2 Inv-messages μ-messages Inv-loop3 μ-loop3 Inv-loop4 μ-loop4 Inv-loop μ-loop
+element-copy-out-held c = let h = c .messages-test .taken in let a = at-bound (c .before .before .before .before .before) in let e = (c .before .before .before) .up-to .ensures in omega
     (arith, h, a, e)
 
 add-c : tie.Need-add-c Inv-loop2 μ-loop2 Inv-messages μ-messages Inv-loop3 μ-loop3 Inv-loop4 μ-loop4 Inv-loop μ-loop
@@ -612,11 +611,11 @@ loop2-holds c =
     let t = (c .before .before .before .before .before .before) in
     let v = (c .before .before) .messages .inv in
     let last = last-is t ((c .before .before .before .before .before) .if1 .taken) ((c .before .before .before .before) .up-to .result) ((c .before .before .before .before) .up-to .ensures) in
-    let f = message-at (N t) (N-sound t) (T t) (T-means t) (E t) (E-says t) ((c .before .before) .messages .m) (v .0) (subst (λ (k : ℕ). (c .before .before) .messages .m < k) last
+    let f = message-at (N t) (N-sound t) (T t) (T-means t) (E t) (E-says t) ((c .before .before) .messages .slot) (v .0) (subst (λ (k : ℕ). (c .before .before) .messages .slot < k) last
     ((c .before) .messages-test .taken)) (v .3) in
     let s : x t + 1 ≡ behindRecv t = ap (λ (k : ℕ). k + 1) (x-is t) in
     let e : x t + 1 - behindRecv t ≡ 0 = omega (arith, s) in
-    (omega (arith, s), refl, refl, rw e f)
+    (omega (arith, s), refl, rw e f)
 
 mul-clause : tie.Need-mul-clause Inv-loop2 μ-loop2 Inv-messages μ-messages Inv-loop3 μ-loop3 Inv-loop4 μ-loop4 Inv-loop μ-loop
 mul-clause c = small (let h = c .loop2-test .taken in let e = (c .before .before .before .before .before) .clauses-end .ensures in omega (arith, h, e))
@@ -627,8 +626,8 @@ element-copy-out-clause c = let h = c .loop2-test .taken in let e = (c .before .
 fits-requires : tie.Need-fits-requires Inv-loop2 μ-loop2 Inv-messages μ-messages Inv-loop3 μ-loop3 Inv-loop4 μ-loop4 Inv-loop μ-loop
 fits-requires c κs = tt
 
-taken-requires : tie.Need-taken-requires Inv-loop2 μ-loop2 Inv-messages μ-messages Inv-loop3 μ-loop3 Inv-loop4 μ-loop4 Inv-loop μ-loop
-taken-requires c κs = tt
+sub-t84 : tie.Need-sub-t84 Inv-loop2 μ-loop2 Inv-messages μ-messages Inv-loop3 μ-loop3 Inv-loop4 μ-loop4 Inv-loop μ-loop
+sub-t84 c = (c .before .before .before .before .before .before .before) .messages .inv .0
 
 add-c-2 : tie.Need-add-c-2 Inv-loop2 μ-loop2 Inv-messages μ-messages Inv-loop3 μ-loop3 Inv-loop4 μ-loop4 Inv-loop μ-loop
 add-c-2 c = small (let h = (c .before .before .before) .loop2-test .taken in let e = (c .before .before .before .before .before .before .before .before) .clauses-end .ensures in omega (arith, h, e))
@@ -643,19 +642,18 @@ loop2-again c =
     let low = v .0 in
     let last = last-is t ((c .before .before .before .before .before .before .before .before .before .before) .if1 .taken)
     ((c .before .before .before .before .before .before .before .before .before) .up-to .result) ((c .before .before .before .before .before .before .before .before .before) .up-to .ensures) in
-    let below = subst (λ (k : ℕ). (c .before .before .before .before .before .before .before) .messages .m < k) last ((c .before .before .before .before .before .before) .messages-test .taken) in
+    let below = subst (λ (k : ℕ). (c .before .before .before .before .before .before .before) .messages .slot < k) last ((c .before .before .before .before .before .before) .messages-test .taken) in
     let high = subst (λ (k : ℕ). (c .before .before .before .before) .loop2 .c < k) (end-is t ((c .before .before .before .before .before .before .before .before) .clauses-end .result)
     ((c .before .before .before .before .before .before .before .before) .clauses-end .ensures)) ((c .before .before .before) .loop2-test .taken) in
     let f = sym ((c .before) .fits2 .ensures) ∙ c .if2 .left in (
       omega (arith, low),
       v .1,
-      v .2,
-      missed (N t) (N-sound t) (T t) (T-means t) (E t) (E-says t) ((c .before .before .before .before .before .before .before) .messages .m)
-          ((c .before .before .before .before) .loop2 .c) ((c .before .before .before .before .before .before .before) .messages .inv .0) below low high f (v .3),
+      missed (N t) (N-sound t) (T t) (T-means t) (E t) (E-says t) ((c .before .before .before .before .before .before .before) .messages .slot)
+          ((c .before .before .before .before) .loop2 .c) ((c .before .before .before .before .before .before .before) .messages .inv .0) below low high f (v .2),
     )
 
-add-m : tie.Need-add-m Inv-loop2 μ-loop2 Inv-messages μ-messages Inv-loop3 μ-loop3 Inv-loop4 μ-loop4 Inv-loop μ-loop
-add-m c = small (let h = (c .before .before .before) .messages-test .taken in let a = at-bound (c .before .before .before .before .before .before .before .before) in let e =
+add-slot : tie.Need-add-slot Inv-loop2 μ-loop2 Inv-messages μ-messages Inv-loop3 μ-loop3 Inv-loop4 μ-loop4 Inv-loop μ-loop
+add-slot c = small (let h = (c .before .before .before) .messages-test .taken in let a = at-bound (c .before .before .before .before .before .before .before .before) in let e =
     (c .before .before .before .before .before .before) .up-to .ensures in omega (arith, h, a, e))
 
 messages-less : tie.Need-messages-less Inv-loop2 μ-loop2 Inv-messages μ-messages Inv-loop3 μ-loop3 Inv-loop4 μ-loop4 Inv-loop μ-loop
@@ -670,14 +668,14 @@ messages-again c =
     let inside = (c .before .before .before) .messages-test .taken in
     let last = last-is t ((c .before .before .before .before .before .before .before) .if1 .taken) ((c .before .before .before .before .before .before) .up-to .result)
     ((c .before .before .before .before .before .before) .up-to .ensures) in
-    let below = subst (λ (k : ℕ). (c .before .before .before .before) .messages .m < k) last inside in
+    let below = subst (λ (k : ℕ). (c .before .before .before .before) .messages .slot < k) last inside in
     let high = subst (λ (k : ℕ). k ≤ (c .before) .loop2 .c) (end-is t ((c .before .before .before .before .before) .clauses-end .result)
     ((c .before .before .before .before .before) .clauses-end .ensures)) (c .loop2-test .left) in (
       omega (arith, from),
       omega (arith, inside),
-      v .1 ∙ o .2,
-      passed (N t) (N-sound t) (T t) (T-means t) (E t) (E-says t) ((c .before .before .before .before) .messages .m) ((c .before) .loop2 .c)
-          from below (v .0) high (v .3),
+      v .1 ∙ ap soFar (let h : suc ((c .before .before .before .before) .messages .slot - 16 * T t .at) ≡ (c .before .before .before .before) .messages .slot + 1 - 16 * T t .at = omega (arith, from) in h),
+      passed (N t) (N-sound t) (T t) (T-means t) (E t) (E-says t) ((c .before .before .before .before) .messages .slot) ((c .before) .loop2 .c)
+          from below (v .0) high (v .2),
     )
 
 at-most-requires : tie.Need-at-most-requires Inv-loop2 μ-loop2 Inv-messages μ-messages Inv-loop3 μ-loop3 Inv-loop4 μ-loop4 Inv-loop μ-loop
@@ -698,6 +696,24 @@ element-copy-out-timeout-refusal c =
 
 timeout-refusal-requires : tie.Need-timeout-refusal-requires Inv-loop2 μ-loop2 Inv-messages μ-messages Inv-loop3 μ-loop3 Inv-loop4 μ-loop4 Inv-loop μ-loop
 timeout-refusal-requires c κs = tt
+
+after-search-requires : tie.Need-after-search-requires Inv-loop2 μ-loop2 Inv-messages μ-messages Inv-loop3 μ-loop3 Inv-loop4 μ-loop4 Inv-loop μ-loop
+after-search-requires c κs = tt
+
+search-refusal-requires : tie.Need-search-refusal-requires Inv-loop2 μ-loop2 Inv-messages μ-messages Inv-loop3 μ-loop3 Inv-loop4 μ-loop4 Inv-loop μ-loop
+search-refusal-requires c κs = tt
+
+fit-index-requires : tie.Need-fit-index-requires Inv-loop2 μ-loop2 Inv-messages μ-messages Inv-loop3 μ-loop3 Inv-loop4 μ-loop4 Inv-loop μ-loop
+fit-index-requires c κs = tt
+
+add-m : tie.Need-add-m Inv-loop2 μ-loop2 Inv-messages μ-messages Inv-loop3 μ-loop3 Inv-loop4 μ-loop4 Inv-loop μ-loop
+add-m c =
+    let l = c .before .before .before .before in
+    let a = at-bound (left-by l) in
+    let few = l .before .before .before .up-to .ensures in
+    let index = c .fit-index .ensures ∙ ap (λ (k : ℕ). fitIndex k (answer l)) few in
+    let h = answers l .within in
+    small (omega (arith, a, index, h))
 
 row-index-requires : tie.Need-row-index-requires Inv-loop2 μ-loop2 Inv-messages μ-messages Inv-loop3 μ-loop3 Inv-loop4 μ-loop4 Inv-loop μ-loop
 row-index-requires c κs = tt
@@ -770,42 +786,42 @@ loop3-holds c =
 add-loop3 : tie.Need-add-loop3 Inv-loop2 μ-loop2 Inv-messages μ-messages Inv-loop3 μ-loop3 Inv-loop4 μ-loop4 Inv-loop μ-loop
 add-loop3 c = small (let h = c .loop3 .inv .0 in omega (arith, h))
 
-add-slot : tie.Need-add-slot Inv-loop2 μ-loop2 Inv-messages μ-messages Inv-loop3 μ-loop3 Inv-loop4 μ-loop4 Inv-loop μ-loop
-add-slot c = small (let h = (c .before) .loop3 .inv .0 in omega (arith, h))
+add-slot-2 : tie.Need-add-slot-2 Inv-loop2 μ-loop2 Inv-messages μ-messages Inv-loop3 μ-loop3 Inv-loop4 μ-loop4 Inv-loop μ-loop
+add-slot-2 c = small (let h = (c .before .before) .loop3 .inv .0 in omega (arith, h))
 
-mul-slot-2 : tie.Need-mul-slot-2 Inv-loop2 μ-loop2 Inv-messages μ-messages Inv-loop3 μ-loop3 Inv-loop4 μ-loop4 Inv-loop μ-loop
-mul-slot-2 c = small (let h = c .loop3-test .taken in let b = last-bound (c .before .before .before .before .before .before .before .before .before) in let e = ends
-    (c .before .before .before .before .before .before .before .before) .last in omega (arith, h, b, e))
+mul-slot : tie.Need-mul-slot Inv-loop2 μ-loop2 Inv-messages μ-messages Inv-loop3 μ-loop3 Inv-loop4 μ-loop4 Inv-loop μ-loop
+mul-slot c = small (let h = c .before .loop3-test .taken in let b = last-bound (c .before .before .before .before .before .before .before .before .before .before) in let e = ends
+    (c .before .before .before .before .before .before .before .before .before) .last in omega (arith, h, b, e))
 
-element-copy-out-slot-2 : tie.Need-element-copy-out-slot-2 Inv-loop2 μ-loop2 Inv-messages μ-messages Inv-loop3 μ-loop3 Inv-loop4 μ-loop4 Inv-loop μ-loop
-element-copy-out-slot-2 c = let h = c .loop3-test .taken in let b = last-bound (c .before .before .before .before .before .before .before .before .before) in let e = ends
-    (c .before .before .before .before .before .before .before .before) .last in omega (arith, h, b, e)
-
-mul-slot-3 : tie.Need-mul-slot-3 Inv-loop2 μ-loop2 Inv-messages μ-messages Inv-loop3 μ-loop3 Inv-loop4 μ-loop4 Inv-loop μ-loop
-mul-slot-3 c = small (let h = (c .before .before) .loop3 .inv .0 in omega (arith, h))
-
-element-set-from-slot : tie.Need-element-set-from-slot Inv-loop2 μ-loop2 Inv-messages μ-messages Inv-loop3 μ-loop3 Inv-loop4 μ-loop4 Inv-loop μ-loop
-element-set-from-slot c = let h = (c .before) .loop3-test .taken in let b = last-bound (c .before .before .before .before .before .before .before .before .before .before) in let e = ends
+element-copy-out-slot : tie.Need-element-copy-out-slot Inv-loop2 μ-loop2 Inv-messages μ-messages Inv-loop3 μ-loop3 Inv-loop4 μ-loop4 Inv-loop μ-loop
+element-copy-out-slot c = let h = c .before .loop3-test .taken in let b = last-bound (c .before .before .before .before .before .before .before .before .before .before) in let e = ends
     (c .before .before .before .before .before .before .before .before .before) .last in omega (arith, h, b, e)
 
+mul-slot-2 : tie.Need-mul-slot-2 Inv-loop2 μ-loop2 Inv-messages μ-messages Inv-loop3 μ-loop3 Inv-loop4 μ-loop4 Inv-loop μ-loop
+mul-slot-2 c = small (let h = (c .before .before .before) .loop3 .inv .0 in omega (arith, h))
+
+element-set-from-slot : tie.Need-element-set-from-slot Inv-loop2 μ-loop2 Inv-messages μ-messages Inv-loop3 μ-loop3 Inv-loop4 μ-loop4 Inv-loop μ-loop
+element-set-from-slot c = let h = (c .before .before) .loop3-test .taken in let b = last-bound (c .before .before .before .before .before .before .before .before .before .before .before) in let e = ends
+    (c .before .before .before .before .before .before .before .before .before .before) .last in omega (arith, h, b, e)
+
 add-m-2 : tie.Need-add-m-2 Inv-loop2 μ-loop2 Inv-messages μ-messages Inv-loop3 μ-loop3 Inv-loop4 μ-loop4 Inv-loop μ-loop
-add-m-2 c = small (let h = (c .before .before) .loop3 .inv .0 in omega (arith, h))
+add-m-2 c = small (let h = (c .before .before .before) .loop3 .inv .0 in omega (arith, h))
 
 loop3-less : tie.Need-loop3-less Inv-loop2 μ-loop2 Inv-messages μ-messages Inv-loop3 μ-loop3 Inv-loop4 μ-loop4 Inv-loop μ-loop
-loop3-less c = let h = (c .before) .loop3-test .taken in omega (arith, h)
+loop3-less c = let h = (c .before .before) .loop3-test .taken in omega (arith, h)
 
 loop3-again : tie.Need-loop3-again Inv-loop2 μ-loop2 Inv-messages μ-messages Inv-loop3 μ-loop3 Inv-loop4 μ-loop4 Inv-loop μ-loop
 loop3-again c =
-    let t = (c .before .before .before .before .before .before .before .before .before .before) in
-    let v = (c .before .before) .loop3 .inv in
-    let h = (c .before) .loop3-test .taken in
+    let t = (c .before .before .before .before .before .before .before .before .before .before .before) in
+    let v = (c .before .before .before) .loop3 .inv in
+    let h = (c .before .before) .loop3-test .taken in
     let b = last-bound t in
-    let e = ends (c .before .before .before .before .before .before .before .before .before) .last in
+    let e = ends (c .before .before .before .before .before .before .before .before .before .before) .last in
     let size : length (N t .slots) ≡ 256 = parts-of (N t) (N-sound t) .sized .mail .cells in
-    let room : (c .before .before .before .before .before .before .before .before .before) .if1 .top ≤ length (N t .slots) = subst
-    (λ (k : ℕ). (c .before .before .before .before .before .before .before .before .before) .if1 .top ≤ k) (sym size) (omega (arith, b, e)) in
-    let q = (c .before .before) .loop3 .node in
-    let slots = set (q .slots) ((c .before .before) .loop3 .m) (getD (q .slots) ((c .before .before) .loop3 .m + 1) noMessage) in
+    let room : (c .before .before .before .before .before .before .before .before .before .before) .if1 .top ≤ length (N t .slots) = subst
+    (λ (k : ℕ). (c .before .before .before .before .before .before .before .before .before .before) .if1 .top ≤ k) (sym size) (omega (arith, b, e)) in
+    let q = (c .before .before .before) .loop3 .node in
+    let slots = set (q .slots) ((c .before .before .before) .loop3 .m) (getD (q .slots) ((c .before .before .before) .loop3 .m + 1) noMessage) in
     (omega (arith, h, b, e), ap (λ (k : Node). withSlots k slots) (v .1), moved-more noMessage (v .2) h room)
 
 up-to-requires-2 : tie.Need-up-to-requires-2 Inv-loop2 μ-loop2 Inv-messages μ-messages Inv-loop3 μ-loop3 Inv-loop4 μ-loop4 Inv-loop μ-loop
@@ -814,8 +830,8 @@ up-to-requires-2 c κs = tt
 add-join : tie.Need-add-join Inv-loop2 μ-loop2 Inv-messages μ-messages Inv-loop3 μ-loop3 Inv-loop4 μ-loop4 Inv-loop μ-loop
 add-join c = small (let h = at-bound (c .before .before .before .before .before .before .before .before) in let e = c .up-to2 .ensures in omega (arith, h, e))
 
-mul-t113 : tie.Need-mul-t113 Inv-loop2 μ-loop2 Inv-messages μ-messages Inv-loop3 μ-loop3 Inv-loop4 μ-loop4 Inv-loop μ-loop
-mul-t113 c = small (let h = at-bound (c .before .before .before .before .before .before .before .before) in let e = c .up-to2 .ensures in omega (arith, h, e))
+mul-t117 : tie.Need-mul-t117 Inv-loop2 μ-loop2 Inv-messages μ-messages Inv-loop3 μ-loop3 Inv-loop4 μ-loop4 Inv-loop μ-loop
+mul-t117 c = small (let h = at-bound (c .before .before .before .before .before .before .before .before) in let e = c .up-to2 .ensures in omega (arith, h, e))
 
 element-set-from-node : tie.Need-element-set-from-node Inv-loop2 μ-loop2 Inv-messages μ-messages Inv-loop3 μ-loop3 Inv-loop4 μ-loop4 Inv-loop μ-loop
 element-set-from-node c = let h = at-bound (c .before .before .before .before .before .before .before .before) in let e = c .up-to2 .ensures in omega (arith, h, e)
@@ -835,8 +851,8 @@ element-copy-out-sent c = c .row-index2 .ensures .1
 cell-index-requires : tie.Need-cell-index-requires Inv-loop2 μ-loop2 Inv-messages μ-messages Inv-loop3 μ-loop3 Inv-loop4 μ-loop4 Inv-loop μ-loop
 cell-index-requires c κs = (c .before) .row-index2 .ensures .1
 
-mul-t124 : tie.Need-mul-t124 Inv-loop2 μ-loop2 Inv-messages μ-messages Inv-loop3 μ-loop3 Inv-loop4 μ-loop4 Inv-loop μ-loop
-mul-t124 c = small (let h = c .cell-index .ensures .1 in omega (arith, h))
+mul-t128 : tie.Need-mul-t128 Inv-loop2 μ-loop2 Inv-messages μ-messages Inv-loop3 μ-loop3 Inv-loop4 μ-loop4 Inv-loop μ-loop
+mul-t128 c = small (let h = c .cell-index .ensures .1 in omega (arith, h))
 
 element-set-from-node-2 : tie.Need-element-set-from-node-2 Inv-loop2 μ-loop2 Inv-messages μ-messages Inv-loop3 μ-loop3 Inv-loop4 μ-loop4 Inv-loop μ-loop
 element-set-from-node-2 c = c .cell-index .ensures .1
@@ -853,8 +869,8 @@ process-index-requires-2 c κs = tt
 fresh-requires : tie.Need-fresh-requires Inv-loop2 μ-loop2 Inv-messages μ-messages Inv-loop3 μ-loop3 Inv-loop4 μ-loop4 Inv-loop μ-loop
 fresh-requires c κs = tt
 
-mul-t131 : tie.Need-mul-t131 Inv-loop2 μ-loop2 Inv-messages μ-messages Inv-loop3 μ-loop3 Inv-loop4 μ-loop4 Inv-loop μ-loop
-mul-t131 c = small (let h = (c .before .before) .process-index2 .ensures .1 in omega (arith, h))
+mul-t135 : tie.Need-mul-t135 Inv-loop2 μ-loop2 Inv-messages μ-messages Inv-loop3 μ-loop3 Inv-loop4 μ-loop4 Inv-loop μ-loop
+mul-t135 c = small (let h = (c .before .before) .process-index2 .ensures .1 in omega (arith, h))
 
 element-set-from-node-3 : tie.Need-element-set-from-node-3 Inv-loop2 μ-loop2 Inv-messages μ-messages Inv-loop3 μ-loop3 Inv-loop4 μ-loop4 Inv-loop μ-loop
 element-set-from-node-3 c = (c .before .before) .process-index2 .ensures .1
@@ -928,8 +944,8 @@ loop4-again c =
 blank-requires : tie.Need-blank-requires Inv-loop2 μ-loop2 Inv-messages μ-messages Inv-loop3 μ-loop3 Inv-loop4 μ-loop4 Inv-loop μ-loop
 blank-requires c κs = tt
 
-mul-t145 : tie.Need-mul-t145 Inv-loop2 μ-loop2 Inv-messages μ-messages Inv-loop3 μ-loop3 Inv-loop4 μ-loop4 Inv-loop μ-loop
-mul-t145 c = small (let h = arrival-bound (c .before .before .before .before .before .before .before .before .before .before .before .before .before) in omega (arith, h))
+mul-t149 : tie.Need-mul-t149 Inv-loop2 μ-loop2 Inv-messages μ-messages Inv-loop3 μ-loop3 Inv-loop4 μ-loop4 Inv-loop μ-loop
+mul-t149 c = small (let h = arrival-bound (c .before .before .before .before .before .before .before .before .before .before .before .before .before) in omega (arith, h))
 
 element-set-from-node-4 : tie.Need-element-set-from-node-4 Inv-loop2 μ-loop2 Inv-messages μ-messages Inv-loop3 μ-loop3 Inv-loop4 μ-loop4 Inv-loop μ-loop
 element-set-from-node-4 c = let h = arrival-bound (c .before .before .before .before .before .before .before .before .before .before .before .before .before) in omega (arith, h)
@@ -1031,18 +1047,18 @@ core-spec =
     add-top
     clauses-end-requires
     messages-holds
-    mul-slot
-    element-copy-out-slot
+    mul-held
+    element-copy-out-held
     add-c
     loop2-holds
     mul-clause
     element-copy-out-clause
     fits-requires
-    taken-requires
+    sub-t84
     add-c-2
     loop2-less
     loop2-again
-    add-m
+    add-slot
     messages-less
     messages-again
     at-most-requires
@@ -1051,6 +1067,10 @@ core-spec =
     moved-requires
     element-copy-out-timeout-refusal
     timeout-refusal-requires
+    after-search-requires
+    search-refusal-requires
+    fit-index-requires
+    add-m
     row-index-requires
     element-copy-out-pair-refusal
     pair-refusal-requires
@@ -1070,30 +1090,30 @@ core-spec =
     element-write-node
     loop3-holds
     add-loop3
-    add-slot
+    add-slot-2
+    mul-slot
+    element-copy-out-slot
     mul-slot-2
-    element-copy-out-slot-2
-    mul-slot-3
     element-set-from-slot
     add-m-2
     loop3-less
     loop3-again
     up-to-requires-2
     add-join
-    mul-t113
+    mul-t117
     element-set-from-node
     risen-requires
     element-write-node-2
     row-index-requires-2
     element-copy-out-sent
     cell-index-requires
-    mul-t124
+    mul-t128
     element-set-from-node-2
     risen-requires-2
     element-write-node-3
     process-index-requires-2
     fresh-requires
-    mul-t131
+    mul-t135
     element-set-from-node-3
     element-write-node-4
     loop-less-2
@@ -1110,7 +1130,7 @@ core-spec =
     loop4-less
     loop4-again
     blank-requires
-    mul-t145
+    mul-t149
     element-set-from-node-4
     element-copy-out-fallen
     fallen-requires-2

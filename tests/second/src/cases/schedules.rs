@@ -4,7 +4,7 @@ use super::plans::Draft;
 use crate::node::{Node, Op, Signal, Stage, PROCESSES};
 use crate::plan;
 use crate::random::Random;
-use crate::step::{self, Step};
+use crate::step::{self, Search, Step};
 use crate::steps::LINE_LIMIT;
 
 /// The refusal with which a schedule tries to end.
@@ -16,6 +16,7 @@ pub enum Goal {
     RunOfGone,
     NoneInFlight,
     MailboxFull,
+    MailboxEmpty,
     NoFit,
     PairFull,
     NotUnborn,
@@ -33,14 +34,15 @@ pub enum Obstacle {
     Message,
 }
 
-const GOALS: [(Goal, usize); 15] = [
+const GOALS: [(Goal, usize); 16] = [
     (Goal::Whole, 31),
     (Goal::BadNumber, 5),
     (Goal::OwnerUnborn, 5),
     (Goal::RunOfGone, 6),
     (Goal::NoneInFlight, 5),
     (Goal::MailboxFull, 12),
-    (Goal::NoFit, 7),
+    (Goal::MailboxEmpty, 2),
+    (Goal::NoFit, 5),
     (Goal::PairFull, 21),
     (Goal::NotUnborn, 8),
     (Goal::NoTimeout(Obstacle::Closing), 3),
@@ -66,6 +68,7 @@ impl Goal {
             Goal::RunOfGone => step::RUN_OF_GONE,
             Goal::NoneInFlight => step::NONE_IN_FLIGHT,
             Goal::MailboxFull => step::MAILBOX_FULL,
+            Goal::MailboxEmpty => step::MAILBOX_EMPTY,
             Goal::NoFit => step::NO_FIT,
             Goal::PairFull => step::PAIR_FULL,
             Goal::NotUnborn => step::NOT_UNBORN,
@@ -146,9 +149,11 @@ pub fn accepted_steps(random: &mut Random, node: &mut Node, length: usize) -> Ve
 fn length(random: &mut Random, goal: Goal) -> usize {
     match goal {
         Goal::MailboxFull => return random.between(100, 400),
-        Goal::PairFull | Goal::NotUnborn | Goal::NoFit | Goal::NoTimeout(_) => {
-            return random.between(20, 150);
-        }
+        Goal::PairFull
+        | Goal::NotUnborn
+        | Goal::MailboxEmpty
+        | Goal::NoFit
+        | Goal::NoTimeout(_) => return random.between(20, 150),
         _ => {}
     }
     match random.below(100) {
@@ -206,8 +211,8 @@ fn extend(
 }
 
 /// Whether a refused step is of the commoner sort of its number, of which most are passed over: a
-/// msg at a full mailbox, a recv at an empty one, a send or an exit to a full pair, the end of a
-/// process to a full pair, a spawn of a live process.
+/// msg at a full mailbox, a send or an exit to a full pair, the end of a process to a full pair, a
+/// spawn of a live process.
 fn is_common(random: &mut Random, node: &Node, step: Step, number: u8) -> bool {
     let common = match step {
         Step::Arrive { to, from } => {
@@ -222,11 +227,10 @@ fn is_common(random: &mut Random, node: &Node, step: Step, number: u8) -> bool {
 
 fn is_common_run(node: &Node, process: u8) -> bool {
     let stage = node.stage(process);
-    let Stage::Live(live) = stage else {
+    if !matches!(stage, Stage::Live(_)) {
         return matches!(stage, Stage::Closing(_));
-    };
+    }
     match node.current_op(process) {
-        Some(Op::Recv(_)) => live.mailbox.is_empty(),
         Some(Op::Send(..) | Op::Exit(..)) => true,
         Some(Op::Spawn {
             process: spawned, ..
@@ -314,7 +318,7 @@ fn obstacle(node: &Node, process: u8) -> Option<Obstacle> {
     if awaited.after.is_none() {
         return Some(Obstacle::NoAfter);
     }
-    awaited.fit.map(|_| Obstacle::Message)
+    matches!(awaited.search, Search::Fit(..)).then_some(Obstacle::Message)
 }
 
 /// A timeout that the node refuses with 28 because of this obstacle, if there is one.
