@@ -34,8 +34,8 @@ module _ (code : List Op) (i : ℕ) (st : State) where
   unfolding runs runsLive
   only-recv h = go (st .process .stage) refl h
     where
-      live : (b : Bool) → st .process .stage ≡ Live → leb (length code) (st .process .place) ≡ b → cond b (ends st normal) (runsOp code i st (getD code (st .process .place) noOp)) ≡ refused mailboxEmpty
-          → AtRecv
+      live : (b : Bool) → st .process .stage ≡ Live → leb (length code) (st .process .place) ≡ b →
+          cond b (ends st normal) (runsOp code i st (getD code (st .process .place) noOp)) ≡ refused mailboxEmpty → AtRecv
       live true l e h = absurd (not-25 (ends st normal) tt h)
       live false l e h =
           let o = getD code (st .process .place) noOp in

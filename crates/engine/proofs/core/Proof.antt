@@ -670,10 +670,12 @@ messages-again c =
     ((c .before .before .before .before .before .before) .up-to .ensures) in
     let below = subst (λ (k : ℕ). (c .before .before .before .before) .messages .slot < k) last inside in
     let high = subst (λ (k : ℕ). k ≤ (c .before) .loop2 .c) (end-is t ((c .before .before .before .before .before) .clauses-end .result)
-    ((c .before .before .before .before .before) .clauses-end .ensures)) (c .loop2-test .left) in (
+    ((c .before .before .before .before .before) .clauses-end .ensures)) (c .loop2-test .left) in
+    let slot = (c .before .before .before .before) .messages .slot in
+    let one : suc (slot - 16 * T t .at) ≡ slot + 1 - 16 * T t .at = omega (arith, from) in (
       omega (arith, from),
       omega (arith, inside),
-      v .1 ∙ ap soFar (let h : suc ((c .before .before .before .before) .messages .slot - 16 * T t .at) ≡ (c .before .before .before .before) .messages .slot + 1 - 16 * T t .at = omega (arith, from) in h),
+      v .1 ∙ ap soFar one,
       passed (N t) (N-sound t) (T t) (T-means t) (E t) (E-says t) ((c .before .before .before .before) .messages .slot) ((c .before) .loop2 .c)
           from below (v .0) high (v .2),
     )
@@ -801,8 +803,11 @@ mul-slot-2 : tie.Need-mul-slot-2 Inv-loop2 μ-loop2 Inv-messages μ-messages Inv
 mul-slot-2 c = small (let h = (c .before .before .before) .loop3 .inv .0 in omega (arith, h))
 
 element-set-from-slot : tie.Need-element-set-from-slot Inv-loop2 μ-loop2 Inv-messages μ-messages Inv-loop3 μ-loop3 Inv-loop4 μ-loop4 Inv-loop μ-loop
-element-set-from-slot c = let h = (c .before .before) .loop3-test .taken in let b = last-bound (c .before .before .before .before .before .before .before .before .before .before .before) in let e = ends
-    (c .before .before .before .before .before .before .before .before .before .before) .last in omega (arith, h, b, e)
+element-set-from-slot c =
+    let h = (c .before .before) .loop3-test .taken in
+    let b = last-bound (c .before .before .before .before .before .before .before .before .before .before .before) in
+    let e = ends (c .before .before .before .before .before .before .before .before .before .before) .last in
+    omega (arith, h, b, e)
 
 add-m-2 : tie.Need-add-m-2 Inv-loop2 μ-loop2 Inv-messages μ-messages Inv-loop3 μ-loop3 Inv-loop4 μ-loop4 Inv-loop μ-loop
 add-m-2 c = small (let h = (c .before .before .before) .loop3 .inv .0 in omega (arith, h))
