@@ -3,6 +3,7 @@
 use crate::bars::Bars;
 use crate::inputs;
 use crate::proved;
+use open_controller::Step;
 use std::env;
 use std::fs;
 use std::process::{Command, Output};
@@ -14,7 +15,7 @@ const GRAIN: usize = 16;
 /// The thread of a trial has at most so many kilobytes of stack.
 const MOST: usize = 4096;
 
-const CALLS: [&str; 4] = ["simulate", "play", "play_steps", "step"];
+const CALLS: [&str; 5] = ["simulate", "suggest", "play", "play_steps", "step"];
 
 /// One call on the longest plan and 4,096 steps; tells whether its answer is right.
 fn call(name: &str) -> bool {
@@ -25,6 +26,8 @@ fn call(name: &str) -> bool {
             let length = proved::simulate(&case, &mut out, 1);
             out[..length].starts_with(b"accepted=4096\nrefused=0\n")
         }
+        // Process 1 circles in three ops, each of which is always accepted.
+        "suggest" => open_controller::suggest(&case.plan, &case.steps) == Ok(Some(Step::Run { owner: 1 })),
         "play" => proved::play(&case, 1) == 4096,
         "play_steps" => proved::play_steps(&case, 1) == 4096,
         "step" => proved::step(&case, 1) == 4096,

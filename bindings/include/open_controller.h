@@ -17,6 +17,14 @@
 /* Enough for every plan that is written, whatever the texts are (theorem short: at most 7,950 bytes). */
 #define OPEN_CONTROLLER_PLAN_OUTPUT 8192
 
+/* Told by open_controller_suggest where one of the texts is refused. */
+#define OPEN_CONTROLLER_REFUSED SIZE_MAX
+
+/* The kinds of a step in the number that open_controller_suggest returns. */
+#define OPEN_CONTROLLER_RUN 0
+#define OPEN_CONTROLLER_ARRIVE 1
+#define OPEN_CONTROLLER_TIMEOUT 2
+
 /*
  * Plays the steps text on the plan text and writes what the program prints into the first bytes of `out`: `load=number,line` where the
  * plan is refused, else `steps=number,line` where the steps text is, else `accepted=`, `refused=` and the listing.
@@ -36,5 +44,18 @@ size_t open_controller_simulate(const uint8_t *plan, size_t plan_length, const u
  */
 size_t open_controller_write_plan(const uint8_t *behaviours_plan, size_t behaviours_plan_length, const uint8_t *starts_plan,
                                   size_t starts_plan_length, uint8_t *out, size_t out_length);
+
+/*
+ * Plays the steps text on the plan text, until a step is refused or to the end, and tells the first step that would be accepted then: lowest
+ * owner, for one owner its run, then its timeout, then its arrivals by rising sender.
+ * Returns kind * 65536 + owner * 256 + from, of which the parts are
+ *     kind  = answer / 65536        OPEN_CONTROLLER_RUN, OPEN_CONTROLLER_ARRIVE or OPEN_CONTROLLER_TIMEOUT
+ *     owner = answer / 256 % 256    the process that the step is of, 1 to 16
+ *     from  = answer % 256          the sender of an arrival, 1 to 16; 0 for a run or a timeout, which have none
+ * Two answers are no step, and are to be looked for first: OPEN_CONTROLLER_REFUSED where one of the texts is refused, and 0 where every step would
+ * be refused. A step is never told as 0, since its owner is at least 1. Any bytes may be given; a pointer must be valid for its length and not
+ * null. It needs less than 256 KB of stack.
+ */
+size_t open_controller_suggest(const uint8_t *plan, size_t plan_length, const uint8_t *steps, size_t steps_length);
 
 #endif

@@ -18,9 +18,11 @@ extern "C" {
         out: *mut u8,
         out_length: usize,
     ) -> usize;
+
+    fn open_controller_suggest(plan: *const u8, plan_length: usize, steps: *const u8, steps_length: usize) -> usize;
 }
 
-/// What the calls answer for refusals 30 and 31.
+/// What the calls that write answer for refusals 30 and 31.
 const SHORT: usize = usize::MAX;
 const UNSOUND: usize = usize::MAX - 1;
 
@@ -75,6 +77,51 @@ pub fn write_plan(behaviours_plan: &[u8], starts_plan: &[u8], out: &mut [u8]) ->
         UNSOUND => Err(NotWritten::Unsound),
         SHORT => Err(NotWritten::Short),
         length => Ok(length),
+    }
+}
+
+/// A step that the node would accept.
+#[derive(Debug, PartialEq, Eq, Clone, Copy)]
+pub enum Step {
+    Run { owner: u8 },
+    Arrive { owner: u8, from: u8 },
+    Timeout { owner: u8 },
+}
+
+/// One of the two texts is refused, so there is no node to ask.
+#[derive(Debug, PartialEq, Eq, Clone, Copy)]
+pub struct Refused;
+
+/// What `suggest` is answered where one of the texts is refused, and where no step would be accepted.
+const REFUSED: usize = usize::MAX;
+const NONE: usize = 0;
+
+/// The kinds of a step in the number that `suggest` is answered.
+const RUN: usize = 0;
+const ARRIVE: usize = 1;
+const TIMEOUT: usize = 2;
+
+/// The first step that would be accepted once the steps text is played on the plan text, until a step is refused or to the end: lowest owner,
+/// for one owner its run, then its timeout, then its arrivals by rising sender. None where every step would be refused.
+pub fn suggest(plan: &[u8], steps: &[u8]) -> Result<Option<Step>, Refused> {
+    // A slice's pointer is valid for its length and never null.
+    let answer = unsafe { open_controller_suggest(plan.as_ptr(), plan.len(), steps.as_ptr(), steps.len()) };
+    match answer {
+        REFUSED => Err(Refused),
+        NONE => Ok(None),
+        step => Ok(Some(step_of(step))),
+    }
+}
+
+/// The step that a number tells: kind * 65536 + owner * 256 + from, where a run and a timeout have no sender and from is 0.
+fn step_of(number: usize) -> Step {
+    let (owner, from) = ((number / 256 % 256) as u8, (number % 256) as u8);
+    match (number / 65_536, from) {
+        (RUN, 0) => Step::Run { owner },
+        (ARRIVE, _) => Step::Arrive { owner, from },
+        (TIMEOUT, 0) => Step::Timeout { owner },
+        // The contract of open_controller_suggest, proved in crates/controller_c, has no other number.
+        _ => unreachable!("open_controller_suggest answered {number}, which is no step"),
     }
 }
 

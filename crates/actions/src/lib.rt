@@ -1,13 +1,16 @@
-// A step as one number: its action, and where its parts stand in a node.
-ghost use mathlib.Core.Bool.{true, false};
+// A step as one number: its action, and where its parts stand in a node; and the numbers of all possible steps.
+ghost use mathlib.Core.Bool.{true, false, cond};
 ghost use mathlib.Core.Path.{_≡_};
 ghost use Prim.Native.Nat.{_<_};
 ghost use lib.Dec.{eqb};
-ghost use Rattle.actions.specs.Numbers.{encode, decode};
+ghost use Rattle.rules.specs.Steps.{recordOf};
+ghost use Rattle.rules.specs.Suggest.{atTurn};
+ghost use Rattle.actions.specs.Numbers.{encode, decode, possibleNumbers};
 ghost use Rattle.actions.specs.Places.{processAt, rowAt, behaviourAt, opAt, decodedOf};
 use node::BehaviourNumber;
 use node::ProcessNumber;
 use node::Step;
+use node::fallen;
 use node::is_number;
 
 // What the number of a step says: whether a process number in it is none (20), whether it is an arrival or a timeout, whose it is, from whom,
@@ -65,6 +68,27 @@ pub fn encode(s: Step) -> u32
     let owner = s.owner;
     let from = s.from;
     (s.kind as u32) * 65536 + (owner.0 as u32) * 256 + (from.0 as u32)
+}
+
+// The step that a number stands for.
+pub fn step_of(number: u32) -> Step
+    ensures { λ r. ⌜ r ≡ decode number ⌝ }
+{
+    let owner = ((number / 256) % 256) as u8;
+    let from = (number % 256) as u8;
+    let kind = number / 65536;
+    if kind < 256 {
+        return Step {
+            kind: kind as u8,
+            owner: ProcessNumber(owner),
+            from: ProcessNumber(from),
+        };
+    }
+    Step {
+        kind: 255,
+        owner: ProcessNumber(owner),
+        from: ProcessNumber(from),
+    }
 }
 
 // The step of a number, as its action. No index is made of a number that is none.
@@ -130,4 +154,45 @@ fn unnumbered(kind: u32, owner: ProcessNumber, from: ProcessNumber) -> Decoded
         at: 0,
         row: 0,
     }
+}
+
+// The numbers of all possible steps, in their order: by owner, its run, its timeout, then its arrivals by sender.
+pub fn possible_numbers() -> [u32; 288]
+    ensures { λ r. ⌜ r ≡ possibleNumbers ⌝ }
+{
+    let mut numbers = [0u32; 288];
+    let mut k: usize = 0;
+    while k < 288 {
+        let s = possible(k as u16);
+        numbers[k] = encode(s);
+        k += 1;
+    }
+    numbers
+}
+
+// The possible step of turn k: 18 turns for each owner.
+fn possible(k: u16) -> Step
+    requires { ⌜ k < 288 ⌝ }
+    ensures { λ r. ⌜ r ≡ recordOf (atTurn k) ⌝ }
+{
+    let turn = (k % 18) as u8;
+    let owner = ((k / 18) as u8) + 1;
+    Step {
+        kind: possible_kind(turn),
+        owner: ProcessNumber(owner),
+        from: ProcessNumber(fallen(turn)),
+    }
+}
+
+// The kind of a step by its turn among its owner's: 0 its run, 2 its timeout, 1 an arrival.
+fn possible_kind(turn: u8) -> u8
+    ensures { λ r. ⌜ r ≡ cond (eqb turn 0) 0 (cond (eqb turn 1) 2 1) ⌝ }
+{
+    if turn == 0 {
+        return 0;
+    }
+    if turn == 1 {
+        return 2;
+    }
+    1
 }

@@ -4,28 +4,24 @@
 --   turn-first turn-next turn-last             it holds at first, is kept by a round that answers x, and gives the answer at the end
 --   Said rounds b i s                          i of the rounds are done, and s of them said b
 --   said-first said-more said-same said-last   it holds at first, is kept by each round, and gives the answer at the end
---   says-stuck                                 a right suggestion says that there is no step exactly where there is none
-use mathlib.Core.Bool.{Bool, true, false, cond, not}
+--   says-none                                  a suggestion says that there is no step, whatever stands for a step in it
+use mathlib.Core.Bool.{Bool, true, false, cond}
 use mathlib.Core.List.{List}
 use mathlib.Core.Option.{Option, none, some}
-use mathlib.Core.Path.{_≡_, refl, sym, _∙_, ap}
+use mathlib.Core.Path.{_≡_, refl, _∙_, ap}
 use Prim.Native.Nat.{ℕ, _+_, _≤_, _<_}
 use native.Mathlib.Omega.{arith}
 use borrow.Author.Tests.{ne-eqb}
 use Rattle.controller.specs.Program.{steps}
+use Rattle.engine.specs.Answers.{recorded}
 use Rattle.node.specs.declared.Node.{Node}
 use Rattle.plan.specs.declared.Loaded.{Loaded}
 use Rattle.plan.specs.Plans.{loadOf}
-use Rattle.node.specs.Lists.{allOf}
 use Rattle.rules.specs.Answers.{Answer, refused, done}
-use Rattle.rules.specs.Nodes.{sound}
 use Rattle.rules.specs.Steps.{Action}
 use Rattle.schedule.specs.declared.Schedule.{Schedule}
 use Rattle.schedule.specs.Reading.{scheduleOf}
-use Rattle.rules.specs.Suggest.{Suggests, acceptable, possible}
-use Rattle.rules.proofs.All.{both, parts}
-use Rattle.rules.proofs.Suggest.{none-right}
-use Rattle.bench_c.specs.Rounds.{after, saysNone, stuck}
+use Rattle.bench_c.specs.Rounds.{after, saysNone}
 
 pub of-texts : {A : Type 0} (f : Node → List Action → A) (p q : List ℕ) {l : Loaded} {s : Schedule} → l ≡ loadOf p → s ≡ scheduleOf q → f (l .node) (steps s)
     ≡ f (loadOf p .node) (steps (scheduleOf q))
@@ -83,15 +79,9 @@ module _ {rounds : ℕ} {b : Bool} where
       let all : i ≡ rounds = omega (arith, h, t .within) in
       t .said ∙ ap (λ (k : ℕ). cond b k 0) all
 
--- ---- what a suggestion says: that there is no step exactly where there is none
+-- ---- what a suggestion says
 
-pub says-stuck : (n : Node) (s : Answer (Option Action)) → Suggests n s → saysNone s ≡ stuck n
-says-stuck n (refused k) h = rw (h .1) refl
-says-stuck n (done none) h = sym (both (h .0) (h .1))
-says-stuck n (done (some a)) h = go (stuck n) refl
-  where
-    go : (b : Bool) → stuck n ≡ b → false ≡ b
-    go false e = refl
-    go true e =
-        let p = parts (sound n) (allOf (λ a. not (acceptable n a)) possible) e in
-        sym (none-right n p a) ∙ h
+pub says-none : (x : Answer (Option Action)) → saysNone (recorded x) ≡ saysNone x
+says-none (refused k) = refl
+says-none (done none) = refl
+says-none (done (some a)) = refl

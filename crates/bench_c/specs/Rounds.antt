@@ -5,12 +5,11 @@
 --   reachedBy plan steps        the node behind that play
 --   soundIn rounds n            how many of the rounds find n sound
 --   saysNone s                  the answer s of a suggestion is that no step would be accepted
---   stuck n                     n is sound and no step would be accepted
---   stuckIn rounds n            how many of the rounds are told so
+--   stuckIn rounds n            how many of the rounds are told so of n
 --   singly n l                  how many of the actions l are accepted from node n on, each as a step of its own; a refused one
 --                               leaves the node, and the next is tried
 --   acceptedSingly plan steps   the same of the node of a plan text and the steps of a steps text
-use mathlib.Core.Bool.{Bool, true, false, cond, not, _&&_}
+use mathlib.Core.Bool.{Bool, true, false, cond}
 use mathlib.Core.List.{List, [], _∷_}
 use mathlib.Core.Option.{Option, none, some}
 use Prim.Native.Nat.{ℕ, _+_}
@@ -18,12 +17,11 @@ use lib.Dec.{eqb}
 use Rattle.controller.specs.Program.{steps}
 use Rattle.engine.specs.Answers.{steppedBy}
 use Rattle.node.specs.declared.Node.{Node}
-use Rattle.node.specs.Lists.{allOf}
 use Rattle.plan.specs.Plans.{loadOf}
 use Rattle.rules.specs.Answers.{Answer, refused, done}
 use Rattle.rules.specs.Nodes.{sound}
 use Rattle.rules.specs.Steps.{Action, Outcome, play, step}
-use Rattle.rules.specs.Suggest.{acceptable, possible}
+use Rattle.rules.specs.Suggest.{suggest}
 use Rattle.schedule.specs.Reading.{scheduleOf}
 
 unfoldable pub after : {A : Type 0} → ℕ → A → A → A
@@ -38,16 +36,13 @@ reachedBy planText stepsText = playedBy planText stepsText .node
 unfoldable pub soundIn : ℕ → Node → ℕ
 soundIn rounds n = cond (sound n) rounds 0
 
-abbrev pub saysNone : Answer (Option Action) → Bool
+abbrev pub saysNone : {A : Type 0} → Answer (Option A) → Bool
 saysNone (refused k) = false
 saysNone (done (some a)) = false
 saysNone (done none) = true
 
-abbrev pub stuck : Node → Bool
-stuck n = sound n && allOf (λ a. not (acceptable n a)) possible
-
 unfoldable pub stuckIn : ℕ → Node → ℕ
-stuckIn rounds n = cond (stuck n) rounds 0
+stuckIn rounds n = cond (saysNone (suggest n)) rounds 0
 
 unfoldable pub singly : Node → List Action → ℕ
 singly n [] = 0

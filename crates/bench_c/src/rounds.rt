@@ -107,7 +107,7 @@ fn accepted_singly(n: Node, numbers: &[u32]) -> usize
     let mut accepted: usize = 0;
     let mut i: usize = 0;
     while i < numbers.len() {
-        let s = steps::step_of(numbers[i]);
+        let s = actions::step_of(numbers[i]);
         let r = engine::step(node, s);
         let next = r.node;
         node = next;

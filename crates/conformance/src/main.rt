@@ -6,6 +6,7 @@ mod full;
 mod holds;
 mod limits;
 mod lists;
+mod offers;
 mod parts;
 mod plays;
 mod receives;
@@ -26,6 +27,7 @@ fn main() {
     timeouts::all();
     receives::all();
     calls::all();
+    offers::all();
     plays::all();
     texts::all();
     lists::all();

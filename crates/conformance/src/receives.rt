@@ -1,6 +1,7 @@
 // What a run tells of a mailbox where nothing fits: 25 where it is empty, 29 where it has messages. Both leave the node as it was, allow a
 // timeout, and are refusals to a suggestion.
 use super::calls;
+use super::offers;
 use super::parts;
 use super::parts::SECOND_TO_FIRST;
 use super::show;
@@ -106,7 +107,7 @@ fn nothing_to_suggest() {
     show::title(b"suggest: one hears nothing, three hear what does not fit");
     let n = waiting_in_vain();
     each_runs(n);
-    calls::suggest(n);
+    offers::suggest(n);
 }
 
 fn waiting_in_vain() -> Node {

@@ -4,10 +4,18 @@
 --   exportedWritten x   the length that x tells, the largest usize where x tells 30, or the one below it where x tells 31
 --   rewritten x y old   the number that is told where the behaviours of the load x are written with the starts of the load y into the buffer
 --                       `old`: 0 where a load is refused;  rewrittenShown x y old  the buffer behind it
+--   exportedOffer x     the number of the step that x suggests, 0 where it suggests none, or the largest usize where x is refused
+--   offered x s         the number that is told of the load x and the read steps s: what is suggested on the node behind a play of the steps,
+--                       or the largest usize where one of the texts is refused
 use mathlib.Core.Bool.{Bool, _&&_, cond}
 use mathlib.Core.List.{List}
+use mathlib.Core.Option.{Option, none, some}
 use Prim.Native.Nat.{ℕ}
 use lib.Dec.{eqb}
+use Rattle.actions.specs.Numbers.{encode}
+use Rattle.controller.specs.Program.{steps}
+use Rattle.engine.specs.Answers.{recorded}
+use Rattle.node.specs.declared.Step.{Step}
 use Rattle.node.specs.Starts.{nodeBehaviours, nodeStarts, startsIn}
 use Rattle.text.specs.Writing.{top}
 use Rattle.plan.specs.declared.Loaded.{Loaded}
@@ -15,6 +23,10 @@ use Rattle.listing.specs.Answers.{outputShort}
 use Rattle.listing.specs.declared.Listed.{Listed}
 use Rattle.plan_writer.specs.Answers.{codesOf, writeTold, writeShown}
 use Rattle.plan_writer.specs.declared.Written.{Written}
+use Rattle.rules.specs.Answers.{Answer, refused, done}
+use Rattle.rules.specs.Steps.{play}
+use Rattle.rules.specs.Suggest.{suggest}
+use Rattle.schedule.specs.declared.Schedule.{Schedule}
 
 unfoldable pub exported : Listed → ℕ
 exported x = cond (eqb (x .number) 0) (x .length) top
@@ -34,3 +46,12 @@ rewritten x y old =
 
 unfoldable pub rewrittenShown : Loaded → Loaded → List ℕ → List ℕ
 rewrittenShown x y old = cond (bothLoaded x y) (writeShown (codesOf (nodeBehaviours (x .node))) (startsIn (nodeStarts (y .node))) old) old
+
+abbrev pub exportedOffer : Answer (Option Step) → ℕ
+exportedOffer (refused k) = top
+exportedOffer (done none) = 0
+exportedOffer (done (some s)) = encode s
+
+unfoldable pub offered : Loaded → Schedule → ℕ
+offered x s =
+    cond (eqb (x .number) 0 && eqb (s .number) 0) (exportedOffer (recorded (suggest (play (x .node) (steps s) .node)))) top

@@ -1,18 +1,25 @@
 // The controller for C and Rust programs: include/open_controller.h declares what is exported here.
+use actions::encode;
+use engine::Suggestion;
 use node::OUTPUT_SHORT;
 use plan_writer::Written;
 use plan_writer::write_plan;
 ghost use mathlib.Core.Path.{_≡_};
+ghost use Rattle.engine.specs.Answers.{suggestionOf};
 ghost use Rattle.listing.specs.Answers.{told, shown};
 ghost use Rattle.plan.specs.Plans.{loadOf};
+ghost use Rattle.schedule.specs.Reading.{scheduleOf};
 ghost use Rattle.controller.specs.Program.{programText};
-ghost use Rattle.controller_c.specs.Exported.{exported, exportedWritten, rewritten, rewrittenShown};
+ghost use Rattle.controller_c.specs.Exported.{exported, exportedWritten, rewritten, rewrittenShown, exportedOffer, offered};
 
 // Told where the buffer is shorter than what is to be written (30).
 const SHORT: usize = 18446744073709551615;
 
 // Told where no accepted plan text holds the behaviours and starts that are to be written (31).
 const UNSOUND: usize = 18446744073709551614;
+
+// Told where a text is refused on whose node a step is to be suggested.
+const REFUSED: usize = 18446744073709551615;
 
 // What the program prints for a plan text and a steps text: its length, with the bytes in `out`; or SHORT, with `out` unchanged.
 #[no_mangle]
@@ -49,6 +56,38 @@ pub extern "C" fn open_controller_write_plan(
     let n = x.node;
     let m = y.node;
     written_number(write_plan(n.behaviours(), m.starts(), out))
+}
+
+// The first step that would be accepted where the steps of a text lead, played on a plan text until one is refused: its kind (0 run, 1 arrive,
+// 2 timeout) * 65536 + owner * 256 + from; 0 where no step would be accepted; or REFUSED where one of the texts is refused.
+#[no_mangle]
+pub extern "C" fn open_controller_suggest(plan: &[u8], steps: &[u8]) -> usize
+    ensures { λ r. ⌜ r ≡ offered (loadOf (now (plan .entry))) (scheduleOf (now (steps .entry))) ⌝ }
+{
+    let l = plan::load(plan);
+    if l.number != 0 {
+        return REFUSED;
+    }
+    let s = schedule::read(steps);
+    if s.number != 0 {
+        return REFUSED;
+    }
+    let node = l.node;
+    let numbers = s.steps;
+    let count = s.count;
+    let r = engine::play(node, &numbers[..count]);
+    offer_number(engine::suggest(r.node))
+}
+
+// What a C caller is told of a suggestion. A play of a loaded node leaves a sound one, so that the first case is never met (`offer-made`).
+fn offer_number(s: Suggestion) -> usize
+    ensures { λ k. ⌜ k ≡ exportedOffer (suggestionOf s) ⌝ }
+{
+    match s {
+        Suggestion::Unsound => REFUSED,
+        Suggestion::Next(step) => encode(step) as usize,
+        Suggestion::Nothing => 0,
+    }
 }
 
 // What a C caller is told of a text that was written or refused.

@@ -5,16 +5,19 @@ ghost use mathlib.Core.List.{map};
 ghost use mathlib.Core.Path.{_≡_};
 ghost use Prim.Native.Nat.{_<_, _+_, _*_, min};
 ghost use Rattle.actions.specs.Numbers.{actionOf};
+ghost use Rattle.rules.specs.Answers.{done};
 ghost use Rattle.rules.specs.Nodes.{Sound};
 ghost use Rattle.rules.specs.Steps.{meaning, step, play, played};
-ghost use Rattle.rules.specs.Suggest.{Suggests};
-ghost use Rattle.engine.specs.Answers.{playedOf, steppedBy, suggestionOf, possibleKind, possibleStep, possibleNumbers, firstOf};
+ghost use Rattle.rules.specs.Suggest.{possible, firstAccepted, suggest};
+ghost use Rattle.engine.specs.Answers.{playedOf, steppedBy, suggestionOf, recorded, firstOf};
 use actions::behaviour_index;
 use actions::decode;
 use actions::encode;
 use actions::op_index;
+use actions::possible_numbers;
 use actions::process_index;
 use actions::row_index;
+use actions::step_of;
 use decisions::birth_refusal;
 use decisions::decide;
 use decisions::pair_refusal;
@@ -22,7 +25,6 @@ use node::Cell;
 use node::NOT_SOUND;
 use node::Node;
 use node::Process;
-use node::ProcessNumber;
 use node::SCHEDULE_TOO_LONG;
 use node::Slot;
 use node::Step;
@@ -44,7 +46,7 @@ pub struct Stepped {
     pub refusal: u8,
 }
 
-// A step that would be accepted, or none where no step would be; Unsound is refusal 31.
+// The first step that would be accepted, or none where no step would be; Unsound is refusal 31.
 pub enum Suggestion {
     Unsound,
     Next(Step),
@@ -85,9 +87,9 @@ pub fn play(n: Node, numbers: &[u32]) -> Played
     ended(0, NOT_SOUND, n)
 }
 
-// A step that the node would accept: by owner, its run, its timeout, then its arrivals by sender.
+// The first step that the node would accept: by owner, its run, its timeout, then its arrivals by sender.
 pub fn suggest(n: Node) -> Suggestion
-    ensures { λ r. ⌜ Suggests n (suggestionOf r) ⌝ }
+    ensures { λ r. ⌜ suggestionOf r ≡ recorded (suggest n) ⌝ }
 {
     if soundness::sound(n) {
         return first_accepted(n);
@@ -95,58 +97,18 @@ pub fn suggest(n: Node) -> Suggestion
     Suggestion::Unsound
 }
 
-// The first of the 288 possible steps that would be accepted.
+// The first of the possible steps that a sound node would accept.
 fn first_accepted(n: Node) -> Suggestion
     requires { ⌜ Sound n ⌝ }
-    ensures { λ r. ⌜ Suggests n (suggestionOf r) ⌝ }
+    ensures { λ r. ⌜ suggestionOf r ≡ recorded (done (firstAccepted n possible)) ⌝ }
 {
     let numbers = possible_numbers();
     let r = core(n, &numbers, true);
     let k = r.accepted;
     if k < 288 {
-        return Suggestion::Next(possible(k as u16));
+        return Suggestion::Next(step_of(numbers[k]));
     }
     Suggestion::Nothing
-}
-
-// The numbers of all possible steps, in their order.
-fn possible_numbers() -> [u32; 288]
-    ensures { λ r. ⌜ r ≡ possibleNumbers ⌝ }
-{
-    let mut numbers = [0u32; 288];
-    let mut k: usize = 0;
-    while k < 288 {
-        let s = possible(k as u16);
-        numbers[k] = encode(s);
-        k += 1;
-    }
-    numbers
-}
-
-// Possible step k: 18 for each owner, its run, its timeout and an arrival from each process.
-fn possible(k: u16) -> Step
-    requires { ⌜ k < 288 ⌝ }
-    ensures { λ r. ⌜ r ≡ possibleStep k ⌝ }
-{
-    let turn = (k % 18) as u8;
-    let owner = ((k / 18) as u8) + 1;
-    Step {
-        kind: possible_kind(turn),
-        owner: ProcessNumber(owner),
-        from: ProcessNumber(fallen(turn)),
-    }
-}
-
-fn possible_kind(turn: u8) -> u8
-    ensures { λ r. ⌜ r ≡ possibleKind turn ⌝ }
-{
-    if turn == 0 {
-        return 0;
-    }
-    if turn == 1 {
-        return 2;
-    }
-    1
 }
 
 fn ended(accepted: usize, refusal: u8, node: Node) -> Played

@@ -1,6 +1,6 @@
 -- A test over a list, and the proposition that it stands for; for elements of any type. Assumes nothing.
 use mathlib.Core.Bool.{Bool, true, false, So, _&&_, _||_, and-eq-true-iff}
-use mathlib.Core.List.{List, [], _∷_, _++_, map, flatMap}
+use mathlib.Core.List.{List, [], _∷_, _++_, map}
 use mathlib.Core.Path.{_≡_, refl, _∙_, ap}
 use Prim.Native.Nat.{ℕ, zero, suc, _+_, _-_, _≤_, _<_}
 use native.Mathlib.Nat.{not-suc-le-zero, le-of-suc-le-suc}
@@ -43,18 +43,10 @@ module _ {A : Type 0} (f : A → Bool) where
   pub allOf-join : (l r : List A) → So (allOf f l) → So (allOf f r) → So (allOf f (l ++ r))
   allOf-join l r h g = rw (allOf-append f l r) (both h g)
 
-  pub allOf-parts : (l r : List A) → So (allOf f (l ++ r)) → So (allOf f l) × So (allOf f r)
-  allOf-parts l r h = parts (allOf f l) (allOf f r) (rw (allOf-append f l r) at h)
-
   pub allOf-without : (k : ℕ) (l : List A) → So (allOf f l) → So (allOf f (without k l))
   allOf-without k [] h = refl
   allOf-without zero (x ∷ l) h = parts (f x) (allOf f l) h .1
   allOf-without (suc k) (x ∷ l) h = let t = parts (f x) (allOf f l) h in both (t .0) (allOf-without k l (t .1))
-
-  pub allOf-flatMap : {B : Type 0} (g : B → List A) (l : List B) → So (allOf f (flatMap g l)) → So (allOf (λ b. allOf f (g b)) l)
-  unfolding flatMap
-  allOf-flatMap g [] h = refl
-  allOf-flatMap g (b ∷ l) h = let t = allOf-parts (g b) (flatMap g l) h in both (t .0) (allOf-flatMap g l (t .1))
 
   pub allOf-map : {B : Type 0} (g : B → A) (l : List B) → allOf f (map g l) ≡ allOf (λ b. f (g b)) l
   allOf-map g [] = refl

@@ -8,8 +8,16 @@
 --   never-back         Forward: none of the six ways back is taken
 --   quiet-only         Quiet: a run is refused with 25 where its words say so and nowhere else, and no arrival and no timeout ever is
 --   confused-only      Confused: the same of 29
-use mathlib.Core.Bool.{Bool, true, false, So, cond, not, _&&_, false≢true}
+--   possible-once      InTurn: no possible step stands at two turns
+--   suggested-steps    FirstOnOffer: a step that is suggested is accepted
+--   not-later          FirstOnOffer: a step is never suggested while an earlier one would be accepted
+--   run-before-timeout timeout-before-arrival owner-first
+--                      of it the three plain cases: within one owner, and from an owner's last step to the next owner's first
+--   none-means-stuck   NoneOnOffer: none is never suggested while a step would be accepted
+use mathlib.Core.Bool.{Bool, true, false, So, cond, not, _&&_, true≢false, false≢true}
 use mathlib.Core.List.{List, [], _∷_}
+use mathlib.Core.Logic.{inl, inr}
+use mathlib.Core.Option.{none, some}
 use mathlib.Core.Path.{_≡_, refl, sym, _∙_, ap, subst}
 use Prim.Native.Nat.{ℕ, zero, suc, _≤_, _<_}
 use native.Mathlib.Omega.{arith}
@@ -24,12 +32,15 @@ use Rattle.rules.specs.Calls.{Call, single, schedule, nodeBehind, callNo
 use Rattle.rules.specs.Effects.{Effect}
 use Rattle.rules.specs.Guarantees.{Order, SoundKept, Stopped, PlayIsSteps, Cause, undecided, full, taken, Exclusive, rank, Forward}
 use Rattle.rules.specs.Guarantees.{clausesOf, isRefusal, atRecv, isEmpty, Quiet, Confused}
+use Rattle.rules.specs.Guarantees.{Earlier, turnOf, InTurn, FirstOnOffer, NoneOnOffer}
 use Rattle.rules.specs.Nodes.{Sound, process, mailbox}
 use Rattle.rules.specs.Steps.{Action, run, arrive, timeout, owner, numbered, ownerBorn, signalWaits, pairHasRoom, numberFree, commit, decide, ready, rule, step, play}
+use Rattle.rules.specs.Suggest.{atTurn, acceptable, suggest}
 use Rattle.rules.specs.Timeout.{noneFits}
 use Rattle.rules.specs.Traces.{owned, Runs}
 use Rattle.rules.proofs.Accepted.{step-rule}
 use Rattle.rules.proofs.Sample.{started}
+use Rattle.rules.proofs.Suggest.{acceptable-goes}
 use Rattle.rules.proofs.Witness.{started-sound, early, late, mixed, early-steps, late-steps, mixed-steps}
 
 -- ---- Order
@@ -186,3 +197,27 @@ quiet-only q n i j s = only mailboxEmpty n i j _ (q n (run i) s) (q n (arrive i 
 
 pub confused-only : Confused → (n : Node) (i j : ℕ) → Sound n → Only noFit n i j (atRecv n i && not (isEmpty (mailbox n i)) && noneFits (clausesOf n i) (mailbox n i))
 confused-only q n i j s = only noFit n i j _ (q n (run i) s) (q n (arrive i j) s) (q n (timeout i) s)
+
+-- ---- InTurn, FirstOnOffer and NoneOnOffer
+
+pub possible-once : InTurn → (j k : ℕ) → j < 288 → k < 288 → atTurn j ≡ atTurn k → j ≡ k
+possible-once t j k h g e = sym (t .2 j h .1) ∙ ap turnOf e ∙ t .2 k g .1
+
+module _ (f : FirstOnOffer) (n : Node) where
+  pub suggested-steps : (a : Action) → suggest n ≡ done (some a) → (m : Node) × (step n a ≡ done m)
+  suggested-steps a e = acceptable-goes n a (f n a .0 e .0)
+
+  pub not-later : (a b : Action) → Earlier a b → So (acceptable n a) → suggest n ≡ done (some b) → ⊥
+  not-later a b l h e = true≢false (sym h ∙ f n b .0 e .1 a l)
+
+  pub run-before-timeout : (i : ℕ) → So (acceptable n (run i)) → suggest n ≡ done (some (timeout i)) → ⊥
+  run-before-timeout i = not-later (run i) (timeout i) (inr (refl, omega arith))
+
+  pub timeout-before-arrival : (i j : ℕ) → 1 ≤ j → So (acceptable n (timeout i)) → suggest n ≡ done (some (arrive i j)) → ⊥
+  timeout-before-arrival i j h = not-later (timeout i) (arrive i j) (inr (refl, omega arith))
+
+  pub owner-first : So (acceptable n (arrive 1 16)) → suggest n ≡ done (some (run 2)) → ⊥
+  owner-first = not-later (arrive 1 16) (run 2) (inl (omega arith))
+
+pub none-means-stuck : NoneOnOffer → (n : Node) → Sound n → (a : Action) → So (acceptable n a) → suggest n ≡ done none → ⊥
+none-means-stuck f n s a h e = true≢false (sym h ∙ f n s .0 e a)

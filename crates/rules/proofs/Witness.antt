@@ -1,7 +1,8 @@
--- That the guarantees speak of something: the sample node is sound, lists of steps on it that differ and end alike, and a step that is refused
--- with 25 and one with 29, computed. Assumes nothing.
+-- That the guarantees speak of something: the sample node is sound, lists of steps on it that differ and end alike, a step that is refused
+-- with 25 and one with 29, and what is suggested while process 1 can step and once it is gone, computed. Assumes nothing.
 use mathlib.Core.Bool.{false}
 use mathlib.Core.List.{List, [], _∷_, map}
+use mathlib.Core.Option.{some}
 use mathlib.Core.Path.{_≡_, refl, sym, _∙_, ap}
 use Prim.Native.Nat.{ℕ}
 use lib.ListN.{length, set, replicate}
@@ -18,7 +19,7 @@ use Rattle.node.specs.Processes.{register, withRegister, moved, advanced, trapp
 use Rattle.node.specs.Rows.{signals, oldest}
 use Rattle.node.specs.Sets.{noPeers, bitsOf, has, withPeer, withoutPeer, lowestPeer}
 use Rattle.node.specs.Values.{intZero, normal, pid, isNumber, fitsInt}
-use Rattle.rules.specs.Answers.{refused, mailboxEmpty, noFit}
+use Rattle.rules.specs.Answers.{refused, done, mailboxEmpty, noFit}
 use Rattle.rules.specs.Arrive.{arrives, exits}
 use Rattle.rules.specs.Behaviours.{operand, instruction, operandInRange, inRange, hasClauses, targetsFree, wellPlaced, codeSound}
 use Rattle.rules.specs.Calls.{Call, single, schedule, callNode, callSteps, after, accepted}
@@ -26,6 +27,8 @@ use Rattle.rules.specs.Nodes.{Sound, sound, shaped, viewSound, view, beh
 use Rattle.rules.specs.Receive.{receives, fits}
 use Rattle.rules.specs.Run.{runs, runsLive, runsOp, closes}
 use Rattle.rules.specs.Steps.{run, arrive, play, played, step, rule, ready, commit, incoming, decide, numbered, ownerBorn, signalWaits, pairHasRoom, numberFree}
+use Rattle.rules.specs.Suggest.{possible, acceptable, suggest}
+use Rattle.rules.specs.Timeout.{expires}
 use Rattle.rules.specs.Traces.{owned}
 use Rattle.rules.proofs.Sample.{opOf, int, sample, started}
 
@@ -113,3 +116,18 @@ puzzled = withMail started (set (replicate 16 0) 1 1) (set (replicate 256 noMess
 pub hears-wrong : step puzzled (run 2) ≡ refused noFit
 unfolding puzzled withMail started sample opOf step rule ready decide numbered ownerBorn signalWaits sound shaped viewSound view behavioursOf code setOf has bitsOf standing runningSound rowSound receives fits runs runsLive runsOp operand instruction operandInRange inRange hasClauses targetsFree wellPlaced codeSound isNumber fitsInt messages signals linksTo kindsOf
 hears-wrong = refl
+
+-- at the start process 1 runs
+pub offers-first : suggest started ≡ done (some (run 1))
+unfolding suggest possible acceptable started sample opOf step rule ready decide numbered ownerBorn signalWaits pairHasRoom numberFree sound shaped viewSound view behavioursOf code setOf has bitsOf standing runningSound rowSound receives fits runs runsLive runsOp operand instruction operandInRange inRange hasClauses targetsFree wellPlaced codeSound isNumber fitsInt messages signals linksTo kindsOf
+offers-first = refl
+
+-- behind its last op it has still to end, and comes before process 2, which has a message
+pub offers-ending : suggest (play started (run 1 ∷ run 1 ∷ run 1 ∷ arrive 2 1 ∷ []) .node) ≡ done (some (run 1))
+unfolding suggest possible acceptable started sample opOf play played step rule ready commit incoming decide numbered ownerBorn signalWaits pairHasRoom numberFree sound shaped viewSound view behavioursOf code setOf has bitsOf standing runningSound rowSound receives fits runs runsLive runsOp closes arrives exits expires operand instruction operandInRange inRange hasClauses targetsFree wellPlaced codeSound isNumber fitsInt messages changed joined left popped emptied signals oldest register withRegister moved advanced trapped linksTo linked unlinked withPeer withoutPeer lowestPeer ended gone kindsOf
+offers-ending = refl
+
+-- it has ended and is gone: of the 18 steps of process 1 none is left
+pub offers-second : suggest (play started (run 1 ∷ run 1 ∷ run 1 ∷ arrive 2 1 ∷ run 1 ∷ run 1 ∷ []) .node) ≡ done (some (run 2))
+unfolding suggest possible acceptable started sample opOf play played step rule ready commit incoming decide numbered ownerBorn signalWaits pairHasRoom numberFree sound shaped viewSound view behavioursOf code setOf has bitsOf standing runningSound rowSound receives fits runs runsLive runsOp closes arrives exits expires operand instruction operandInRange inRange hasClauses targetsFree wellPlaced codeSound isNumber fitsInt messages changed joined left popped emptied signals oldest register withRegister moved advanced trapped linksTo linked unlinked withPeer withoutPeer lowestPeer ended gone kindsOf
+offers-second = refl

@@ -1,5 +1,5 @@
--- The guarantees on these rules. Each is proved in proofs/Order.antt, those of M-102 and M-104 in proofs/Expiry.antt and proofs/Waiting.antt, under the
--- name beside it; proofs/Consequences.antt draws from each what a weaker statement would not give.
+-- The guarantees on these rules. Each is proved in proofs/Order.antt, those of M-102, M-104 and M-105 in proofs/Expiry.antt, proofs/Waiting.antt and
+-- proofs/Suggest.antt, under the name beside it; proofs/Consequences.antt draws from each what a weaker statement would not give.
 --   Order        order         demand 3: lists in which each process has the same accepted steps in the same order end in equal nodes
 --   SoundKept    sound-kept    an accepted step and a play of a sound node leave a sound node
 --   PlayIsSteps  play-is-steps a play of a sound node is its steps one after another, up to the first refusal
@@ -8,10 +8,15 @@
 --   Timeouts     timeouts      M-102: a timeout is accepted exactly where its owner may give up; else it is 20, 21 or 28, each exactly
 --   Quiet        quiet         M-104: 25 is told exactly of a run of a live process at a recv whose mailbox is empty
 --   Confused     confused      M-104: 29 is told exactly of a run of a live process at a recv whose mailbox has messages, of which none fits
+--   InTurn       in-turn       M-105: the possible steps are 288, each once, in the order of the request
+--   FirstOnOffer first-on-offer M-105: a step is suggested exactly where it would be accepted and every earlier one refused
+--   NoneOnOffer  none-on-offer M-105: none is suggested on a sound node exactly where every step would be refused
 use mathlib.Core.Bool.{Bool, true, false, So, not, _&&_}
 use mathlib.Core.List.{List, [], _∷_}
+use mathlib.Core.Logic.{_⊎_}
+use mathlib.Core.Option.{none, some}
 use mathlib.Core.Path.{_≡_}
-use Prim.Native.Nat.{ℕ, _+_, _-_, _≤_}
+use Prim.Native.Nat.{ℕ, _+_, _-_, _*_, _≤_, _<_}
 use lib.Dec.{eqb}
 use lib.ListN.{length, getD, set, take, drop}
 use Rattle.node.specs.declared.Message.{Message}
@@ -28,6 +33,7 @@ use Rattle.rules.specs.Calls.{Call, after, acceptedBy}
 use Rattle.rules.specs.Effects.{Effect}
 use Rattle.rules.specs.Nodes.{Sound, code, process, mailbox}
 use Rattle.rules.specs.Steps.{Action, run, arrive, timeout, owner, isUnborn, numbered, signalWaits, pairHasRoom, numberFree, decide, step, play}
+use Rattle.rules.specs.Suggest.{possible, atTurn, acceptable, suggest}
 use Rattle.rules.specs.Timeout.{behindClauses, atAfter, isLive, noneFits}
 use Rattle.rules.specs.Traces.{Runs}
 
@@ -137,3 +143,37 @@ Quiet = (n : Node) (a : Action) → Sound n → isRefusal mailboxEmpty (step n a
 
 abbrev pub Confused : Type 0
 Confused = (n : Node) (a : Action) → Sound n → isRefusal noFit (step n a) ≡ meetsUnfit n a
+
+-- where a step stands among the 18 of its owner
+abbrev pub amongOwn : Action → ℕ
+amongOwn (run i) = 0
+amongOwn (timeout i) = 1
+amongOwn (arrive i j) = 1 + j
+
+-- "lowest owner, for one owner run, then timeout, then arrivals by rising sender"
+abbrev pub Earlier : Action → Action → Type 0
+Earlier a b = (owner a < owner b) ⊎ ((owner a ≡ owner b) × (amongOwn a < amongOwn b))
+
+-- where a step stands among all: its turn, from 0 on
+abbrev pub turnOf : Action → ℕ
+turnOf a = 18 * (owner a - 1) + amongOwn a
+
+-- those that stand earlier are earlier; what stands there is possible, and what is possible stands there, at its turn and at no other
+abbrev pub InTurn : Type 0
+InTurn =
+    (length possible ≡ 288) ×
+    ((j k : ℕ) → j < k → k < 288 → Earlier (atTurn j) (atTurn k)) ×
+    ((k : ℕ) → k < 288 → So (numbered (atTurn k)) × (turnOf (atTurn k) ≡ k)) ×
+    ((a : Action) → So (numbered a) → (turnOf a < 288) × (atTurn (turnOf a) ≡ a))
+
+abbrev pub IsFirst : Node → Action → Type 0
+IsFirst n a = So (acceptable n a) × ((b : Action) → Earlier b a → acceptable n b ≡ false)
+
+abbrev pub FirstOnOffer : Type 0
+FirstOnOffer = (n : Node) (a : Action) → (suggest n ≡ done (some a) → IsFirst n a) × (IsFirst n a → suggest n ≡ done (some a))
+
+-- of all steps, not only of the possible ones
+abbrev pub NoneOnOffer : Type 0
+NoneOnOffer =
+    (n : Node) → Sound n →
+    (suggest n ≡ done none → (a : Action) → acceptable n a ≡ false) × (((a : Action) → acceptable n a ≡ false) → suggest n ≡ done none)

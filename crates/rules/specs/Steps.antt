@@ -2,6 +2,7 @@
 --   Action         a step: `run i`, `arrive i from j` or `timeout i`
 --   owner a        its owner
 --   meaning s      the action that a step record stands for
+--   recordOf a     the step record of an action
 --   decide n a     the local decision: what the owner does, from its own state, its code and the oldest signal of one row
 --   commit n a e   the node after effect e of action a
 --   rule n a       the checks 20 to 29 in their order, then the commit
@@ -47,6 +48,12 @@ owner (timeout i) = i
 -- a step record by its kind: 0 run, 1 arrive, 2 timeout; any other kind stands for `run 0`, which is refused with 20
 unfoldable pub meaning : Step → Action
 meaning s = getD (run (s .owner .0) ∷ arrive (s .owner .0) (s .from .0) ∷ timeout (s .owner .0) ∷ []) (s .kind) (run 0)
+
+-- its `from` is 0 where it has none
+unfoldable pub recordOf : Action → Step
+recordOf (run i) = record { kind = 0; owner = record { 0 = i }; from = record { 0 = 0 } }
+recordOf (arrive i j) = record { kind = 1; owner = record { 0 = i }; from = record { 0 = j } }
+recordOf (timeout i) = record { kind = 2; owner = record { 0 = i }; from = record { 0 = 0 } }
 
 -- ---- the checks
 

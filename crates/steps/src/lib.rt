@@ -10,10 +10,10 @@ ghost use Rattle.actions.specs.Numbers.{decode, actionOf};
 ghost use Rattle.engine.specs.Answers.{playedOf};
 ghost use Rattle.rules.specs.Steps.{meaning, play};
 ghost use Rattle.steps.specs.Walk.{begins, goesOn};
+use actions::step_of;
 use engine::Played;
 use node::NOT_SOUND;
 use node::Node;
-use node::ProcessNumber;
 use node::SCHEDULE_TOO_LONG;
 use node::Step;
 
@@ -43,27 +43,6 @@ pub fn play_lent(n: Node, numbers: &[u32]) -> Played
     }
     let steps = decoded(numbers);
     lend_first(n, steps, numbers.len())
-}
-
-// The step that a number stands for.
-pub fn step_of(number: u32) -> Step
-    ensures { λ r. ⌜ r ≡ decode number ⌝ }
-{
-    let owner = ((number / 256) % 256) as u8;
-    let from = (number % 256) as u8;
-    let kind = number / 65536;
-    if kind < 256 {
-        return Step {
-            kind: kind as u8,
-            owner: ProcessNumber(owner),
-            from: ProcessNumber(from),
-        };
-    }
-    Step {
-        kind: 255,
-        owner: ProcessNumber(owner),
-        from: ProcessNumber(from),
-    }
 }
 
 // A play before its first step: refused with 31 or 32, or to be gone on with.

@@ -1,7 +1,8 @@
-//! Compares the bytes of the proved library, plans written back among them, and of the built program with those of the second interpreter:
-//! `compare PROGRAM SEED LIBRARY_CASES PROGRAM_CASES`. Prints what the cases reached, and fails at the first difference or where
-//! something that documents 01 and 02 name was reached by no case.
+//! Compares the bytes of the proved library, plans written back among them, and of the built program, and the first acceptable step that the
+//! library tells, with those of the second interpreter: `compare PROGRAM SEED LIBRARY_CASES PROGRAM_CASES`. Prints what the cases reached, and
+//! fails at the first difference or where something that documents 01 and 02 name was reached by no case.
 
+mod suggesting;
 mod writing;
 
 use second::Coverage;
@@ -11,6 +12,7 @@ use std::path::{Path, PathBuf};
 use std::process::{exit, Command, Output};
 use std::thread;
 use std::time::Duration;
+use suggesting::Suggesting;
 use writing::{comes_back, Writing};
 
 fn library(plan: &[u8], steps: &[u8]) -> Vec<u8> {
@@ -172,11 +174,18 @@ fn special_files(program: &Path, folder: &Path) -> usize {
 /// How many nearly full nodes are listed.
 const FULL_CASES: u64 = 20;
 
-/// The cases of the generator, played and written back by the library.
-fn compare_library(seed: u64, cases: u64, coverage: &mut Coverage, writing: &mut Writing) {
+/// What is counted of the cases that the library is given.
+struct Counts {
+    coverage: Coverage,
+    writing: Writing,
+    suggesting: Suggesting,
+}
+
+/// The cases of the generator, played, written back and asked for their first acceptable step by the library.
+fn compare_library(seed: u64, cases: u64, counts: &mut Counts) {
     for k in 0..cases {
         let (plan, steps) = second::case(seed, k);
-        let expected = second::simulate_counted(&plan, &steps, coverage);
+        let expected = second::simulate_counted(&plan, &steps, &mut counts.coverage);
         let found = library(&plan, &steps);
         if found != expected {
             differ("the library", &plan, &steps, &expected, &found);
@@ -184,12 +193,14 @@ fn compare_library(seed: u64, cases: u64, coverage: &mut Coverage, writing: &mut
         if k % 64 == 0 {
             check_room(&plan, &steps, &expected);
         }
-        writing.compare(k, &plan, !expected.starts_with(b"load="));
+        counts.writing.compare(k, &plan, !expected.starts_with(b"load="));
+        counts.suggesting.compare(k, &plan, &steps);
     }
     comes_back(&second::longest(), true);
 }
 
-/// Nearly full nodes, listed by the library and the program, their plans written back; answers the length of the longest answer.
+/// Nearly full nodes, listed by the library and the program, their plans written back and their first acceptable steps asked for; answers the
+/// length of the longest answer.
 fn compare_full(seed: u64, program: &Path, folder: &Path) -> usize {
     let mut longest = 0;
     for k in 0..FULL_CASES {
@@ -201,6 +212,7 @@ fn compare_full(seed: u64, program: &Path, folder: &Path) -> usize {
         }
         check_room(&plan, &steps, &expected);
         comes_back(&plan, true);
+        suggesting::check(&plan, &steps, Ok(second::suggest(&plan, &steps).expect("two accepted texts")));
         longest = longest.max(run_program(&mut Command::new(program), folder, &File::Bytes(plan), &File::Bytes(steps)).len());
     }
     assert!(longest >= 30_000, "the longest answer of the program has {longest} bytes");
@@ -218,9 +230,8 @@ fn main() {
     let library_cases: u64 = library_cases.parse().expect("a number");
     let program_cases: u64 = program_cases.parse().expect("a number");
 
-    let mut coverage = Coverage::new();
-    let mut writing = Writing::default();
-    compare_library(seed, library_cases, &mut coverage, &mut writing);
+    let mut counts = Counts { coverage: Coverage::new(), writing: Writing::default(), suggesting: Suggesting::new() };
+    compare_library(seed, library_cases, &mut counts);
     let folder = std::env::temp_dir().join(format!("open_controller-{}", std::process::id()));
     fs::create_dir_all(&folder).unwrap();
     for k in 0..program_cases {
@@ -231,12 +242,13 @@ fn main() {
     check_full_output(&program, &folder);
     let files = special_files(&program, &folder);
     fs::remove_dir_all(&folder).unwrap();
-    print!("{coverage}{writing}");
+    let Counts { coverage, writing, suggesting } = counts;
+    print!("{coverage}{writing}{suggesting}");
     println!(
         "seed {seed}: the library agrees on {library_cases} cases, the program on {program_cases} cases and {files} pairs of files, \
          both on {FULL_CASES} nearly full nodes (at most {longest} bytes)"
     );
-    let missing = [coverage.rarer_than(1), writing.missing()].concat();
+    let missing = [coverage.rarer_than(1), writing.missing(), suggesting.missing()].concat();
     if !missing.is_empty() {
         println!("reached by no case: {}", missing.join("; "));
         exit(1);

@@ -1,4 +1,4 @@
-//! A second interpreter of document 01 (the open garage node) and of requests M-100 to M-104 of
+//! A second interpreter of document 01 (the open garage node) and of requests M-100 to M-105 of
 //! document 02, with a seeded generator of cases. It shares no code and no tables with the proved
 //! crates, so that the two can be compared.
 
@@ -7,6 +7,7 @@ pub mod cases;
 pub mod coverage;
 pub mod listing;
 pub mod node;
+pub mod offer;
 pub mod plan;
 pub mod random;
 pub mod reorder;
@@ -19,6 +20,7 @@ pub use cases::case;
 pub use cases::full::full;
 pub use cases::longest::longest;
 pub use coverage::Coverage;
+pub use offer::suggest;
 pub use writer::write_plan;
 
 use node::Node;

@@ -1,12 +1,7 @@
 -- The first of the possible steps that would be accepted, by the loop that looks. Assumes nothing.
-use mathlib.Core.Path.{refl, sym, subst}
-use mathlib.Core.Bool.{So}
-use native.Mathlib.Omega.{arith}
+use mathlib.Core.Path.{refl}
 use borrow.Author.Needs.{needs}
-use Rattle.node.specs.declared.Step.{Step}
-use Rattle.rules.specs.Steps.{meaning}
-use Rattle.rules.specs.Suggest.{acceptable}
-use Rattle.engine.proofs.Calls.{suggests-it, suggests-none}
+use Rattle.engine.proofs.Calls.{offers-it, offers-none}
 use Rattle.engine.proofs.first_accepted.Statement.{statement}
 use Rattle.engine.proofs.first_accepted.Tie as tie
 
@@ -19,26 +14,26 @@ slice-aggregate-core c = search needs
 core-requires : tie.Need-core-requires
 core-requires c κs = c .before .before .pre
 
-cast-possible : tie.Need-cast-possible
-cast-possible c = search needs
+mul-step-of : tie.Need-mul-step-of
+mul-step-of c = search (needs, c .if1 .taken)
 
-possible-requires : tie.Need-possible-requires
-possible-requires c κs = c .if1 .taken
+array-read-step-of : tie.Need-array-read-step-of
+array-read-step-of c = search (needs, c .if1 .taken)
+
+step-of-requires : tie.Need-step-of-requires
+step-of-requires c κs = tt
 
 returns : tie.Need-returns
 returns c =
     let numbers = c .before .before .before .before .possible-numbers in
     let looked = c .before .before .core in
-    let n = c .before .before .before .before .before .args .n in
-    let it = suggests-it n (numbers .result) (numbers .ensures) (looked .result .accepted) (looked .ensures .1 refl) (c .before .if1 .taken) in
-    subst (λ (s : Step). So (acceptable n (meaning s))) (sym (c .possible .ensures)) it
+    offers-it _ (numbers .result) (numbers .ensures) (looked .result .accepted) (looked .ensures .1 refl) _ (c .before .if1 .taken) (c .step-of .ensures)
 
 returns-2 : tie.Need-returns-2
 returns-2 c =
     let numbers = c .before .before .before .possible-numbers in
     let looked = c .before .core in
-    let n = c .before .before .before .before .args .n in
-    (c .before .before .before .before .pre, suggests-none n (numbers .result) (numbers .ensures) (looked .result .accepted) (looked .ensures .1 refl) (c .if1 .left))
+    offers-none _ (numbers .result) (numbers .ensures) (looked .result .accepted) (looked .ensures .1 refl) (c .if1 .left)
 
 pub first-accepted-spec : {M : Type 1} → statement M
-first-accepted-spec = tie.close (tie.spec possible-numbers-requires slice-aggregate-core core-requires cast-possible possible-requires returns returns-2)
+first-accepted-spec = tie.close (tie.spec possible-numbers-requires slice-aggregate-core core-requires mul-step-of array-read-step-of step-of-requires returns returns-2)

@@ -1,16 +1,16 @@
 -- `suggests` counts the rounds in which no step was suggested on a sound node. Assumes nothing.
 use mathlib.Core.Logic.{⊎-elim}
-use mathlib.Core.Path.{_∙_}
+use mathlib.Core.Path.{_∙_, ap}
 use Prim.Native.Nat.{_-_}
 use borrow.Author.Needs.{needs}
-use Rattle.engine.specs.Answers.{suggestionOf}
-use Rattle.bench_c.specs.Rounds.{stuck, stuckIn}
-use Rattle.bench_c.proofs.Laws.{Said, said-first, said-more, said-same, said-last, says-stuck}
+use Rattle.rules.specs.Suggest.{suggest}
+use Rattle.bench_c.specs.Rounds.{saysNone, stuckIn}
+use Rattle.bench_c.proofs.Laws.{Said, said-first, said-more, said-same, said-last, says-none}
 use Rattle.bench_c.proofs.rounds.suggests.Statement.{statement}
 use Rattle.bench_c.proofs.rounds.suggests.Tie as tie
 
 abbrev Inv-loop : tie.InvT-loop
-Inv-loop n rounds said₀ i₀ said i = Said rounds (stuck n) i said
+Inv-loop n rounds said₀ i₀ said i = Said rounds (saysNone (suggest n)) i said
 
 abbrev μ-loop : tie.MeasureT-loop
 μ-loop n rounds said₀ i₀ said i = rounds - i
@@ -40,7 +40,7 @@ loop-again c =
     let its-loop-test = c .before .before .before .loop-test in
     let its-loop = c .before .before .before .before .loop in
     let its-args = c .before .before .before .before .before .args in
-    let right = its-says-none .ensures ∙ says-stuck (its-args .n) (suggestionOf (its-suggest .result)) (its-suggest .ensures) in
+    let right = its-says-none .ensures ∙ ap saysNone (its-suggest .ensures) ∙ says-none (suggest (its-args .n)) in
     ⊎-elim
     (λ w. rw (w .1) (said-more (its-loop .inv) right (its-loop-test .taken) (w .0 .taken)))
     (λ w. rw (w .1) (said-same (its-loop .inv) right (its-loop-test .taken) (w .0 .left)))

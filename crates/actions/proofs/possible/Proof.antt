@@ -1,8 +1,8 @@
--- `possible` counts the steps of each owner. Assumes nothing.
+-- `possible` makes the step of a turn. Assumes nothing.
 use borrow.Author.Needs.{needs}
-use Rattle.engine.specs.Answers.{possibleStep}
-use Rattle.engine.proofs.possible.Statement.{statement}
-use Rattle.engine.proofs.possible.Tie as tie
+use Rattle.actions.proofs.AllSteps.{step-at}
+use Rattle.actions.proofs.possible.Statement.{statement}
+use Rattle.actions.proofs.possible.Tie as tie
 
 cast-turn : tie.Need-cast-turn
 cast-turn c = search needs
@@ -20,8 +20,7 @@ fallen-requires : tie.Need-fallen-requires
 fallen-requires c κs = search needs
 
 returns : tie.Need-returns
-unfolding possibleStep
-returns c = rw (c .before .possible-kind .ensures, c .fallen .ensures)
+returns c = rw (c .before .possible-kind .ensures, c .fallen .ensures) (step-at _ (c .before .before .pre))
 
 pub possible-spec : {M : Type 1} → statement M
 possible-spec = tie.close (tie.spec cast-turn cast-owner add-owner possible-kind-requires fallen-requires returns)

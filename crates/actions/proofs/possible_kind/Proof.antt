@@ -1,7 +1,7 @@
 -- `possible_kind` gives the kinds in their order. Assumes nothing.
 use borrow.Author.Tests.{eq-eqb, ne-eqb}
-use Rattle.engine.proofs.possible_kind.Statement.{statement}
-use Rattle.engine.proofs.possible_kind.Tie as tie
+use Rattle.actions.proofs.possible_kind.Statement.{statement}
+use Rattle.actions.proofs.possible_kind.Tie as tie
 
 returns : tie.Need-returns
 returns c = rw (eq-eqb _ 0 (c .if1 .taken))

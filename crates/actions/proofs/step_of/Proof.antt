@@ -3,9 +3,9 @@ use mathlib.Core.Path.{_≡_}
 use Prim.Native.Nat.{_/_, min}
 use native.Mathlib.Omega.{arith}
 use borrow.Author.Needs.{needs}
 use Rattle.actions.specs.Numbers.{decode}
-use Rattle.steps.proofs.step_of.Statement.{statement}
-use Rattle.steps.proofs.step_of.Tie as tie
+use Rattle.actions.proofs.step_of.Statement.{statement}
+use Rattle.actions.proofs.step_of.Tie as tie
 
 cast-owner : tie.Need-cast-owner
 cast-owner c = search needs

@@ -4,10 +4,10 @@ use Prim.Native.Nat.{_-_, _≤_}
 use native.Mathlib.Omega.{arith}
 use borrow.Author.Needs.{needs}
 use lib.ListN.{length, length-set}
 use Rattle.actions.specs.Numbers.{encode}
-use Rattle.engine.proofs.Calls.{Filled, filled-more, filled-all}
-use Rattle.engine.proofs.possible_numbers.Statement.{statement}
-use Rattle.engine.proofs.possible_numbers.Tie as tie
+use Rattle.actions.proofs.AllSteps.{Filled, filled-more, filled-all}
+use Rattle.actions.proofs.possible_numbers.Statement.{statement}
+use Rattle.actions.proofs.possible_numbers.Tie as tie
 
 abbrev Inv-loop : tie.InvT-loop
 Inv-loop numbers₀ k₀ numbers k = (k ≤ 288) × (length numbers ≡ 288) × Filled numbers k
@@ -22,7 +22,7 @@ cast-possible : tie.Need-cast-possible Inv-loop μ-loop
 cast-possible c = search (needs, c .loop-test .taken)
 
 possible-requires : tie.Need-possible-requires Inv-loop μ-loop
-possible-requires c κs = c .loop-test .taken
+possible-requires c κs = let t = c .loop-test .taken in omega (arith, t)
 
 encode-requires : tie.Need-encode-requires Inv-loop μ-loop
 encode-requires c κs = tt
@@ -41,16 +41,20 @@ loop-less c = let t = c .before .before .loop-test .taken in omega (arith, t)
 
 loop-again : tie.Need-loop-again Inv-loop μ-loop
 loop-again c =
-    let v = c .before .before .before .loop .inv in
-    let t = c .before .before .loop-test .taken in (
+    let its-loop = c .before .before .before .loop in
+    let v = its-loop .inv in
+    let t = c .before .before .loop-test .taken in
+    let here = c .encode .ensures .0 ∙ ap encode (c .before .possible .ensures) in (
       omega (arith, t),
-      length-set (c .before .before .before .loop .numbers) (c .before .before .before .loop .k) (c .encode .result) ∙ v .1,
-      filled-more (c .before .before .before .loop .numbers) (v .1) (c .before .before .before .loop .k) (c .encode .result) t (c .encode .ensures .0 ∙ ap encode (c .before .possible .ensures))
-          (v .2),
+      length-set (its-loop .numbers) (its-loop .k) (c .encode .result) ∙ v .1,
+      filled-more (its-loop .numbers) (v .1) (its-loop .k) (c .encode .result) (omega (arith, t)) here (v .2),
     )
 
 returns : tie.Need-returns Inv-loop μ-loop
-returns c = let v = c .before .loop .inv in filled-all _ (v .1) _ (c .loop-test .left) (v .2)
+returns c =
+    let v = c .before .loop .inv in
+    let t = c .loop-test .left in
+    filled-all _ (v .1) _ (omega (arith, t)) (v .2)
 
 pub possible-numbers-spec : {M : Type 1} → statement M
 possible-numbers-spec =
