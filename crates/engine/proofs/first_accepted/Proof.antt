@@ -1,5 +1,6 @@
 -- The first of the possible steps that would be accepted, by the loop that looks. Assumes nothing.
 use mathlib.Core.Path.{refl}
+use native.Mathlib.Omega.{arith}
 use borrow.Author.Needs.{needs}
 use Rattle.engine.proofs.Calls.{offers-it, offers-none}
 use Rattle.engine.proofs.first_accepted.Statement.{statement}
@@ -27,13 +28,15 @@ returns : tie.Need-returns
 returns c =
     let numbers = c .before .before .before .before .possible-numbers in
     let looked = c .before .before .core in
-    offers-it _ (numbers .result) (numbers .ensures) (looked .result .accepted) (looked .ensures .1 refl) _ (c .before .if1 .taken) (c .step-of .ensures)
+    let t = c .before .if1 .taken in
+    offers-it _ (numbers .result) (numbers .ensures) (looked .result .accepted) (looked .ensures .1 refl) _ (omega (arith, t)) (c .step-of .ensures)
 
 returns-2 : tie.Need-returns-2
 returns-2 c =
     let numbers = c .before .before .before .possible-numbers in
     let looked = c .before .core in
-    offers-none _ (numbers .result) (numbers .ensures) (looked .result .accepted) (looked .ensures .1 refl) (c .if1 .left)
+    let t = c .if1 .left in
+    offers-none _ (numbers .result) (numbers .ensures) (looked .result .accepted) (looked .ensures .1 refl) (omega (arith, t))
 
 pub first-accepted-spec : {M : Type 1} → statement M
 first-accepted-spec = tie.close (tie.spec possible-numbers-requires slice-aggregate-core core-requires mul-step-of array-read-step-of step-of-requires returns returns-2)
