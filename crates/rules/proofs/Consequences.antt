@@ -8,6 +8,7 @@
 --   never-back         Forward: none of the six ways back is taken
 --   quiet-only         Quiet: a run is refused with 25 where its words say so and nowhere else, and no arrival and no timeout ever is
 --   confused-only      Confused: the same of 29
+--   run-or-timeout     Timeouts, Quiet and Confused: a run and a timeout of one owner are never both accepted
 --   possible-once      InTurn: no possible step stands at two turns
 --   suggested-steps    FirstOnOffer: a step that is suggested is accepted
 --   not-later          FirstOnOffer: a step is never suggested while an earlier one would be accepted
@@ -23,22 +24,26 @@ use Prim.Native.Nat.{ℕ, zero, suc, _≤_, _<_}
 use native.Mathlib.Omega.{arith}
 use borrow.Author.Tests.{eqb-true, eq-eqb}
 use lib.Dec.{eqb}
-use lib.ListN.{length, take, drop}
+use lib.ListN.{length, getD, take, drop}
 use Rattle.node.specs.declared.Node.{Node}
 use Rattle.node.specs.declared.Stage.{Stage}
 use Rattle.node.specs.declared.Stage.the-variants.{Unborn, Live, Closing, Gone}
-use Rattle.rules.specs.Answers.{Answer, refused, done, need, goOn, mailboxEmpty, pairFull, notUnborn, noFit}
+use Rattle.node.specs.Nodes.{noOp}
+use Rattle.node.specs.Ops.{recvOp}
+use Rattle.node.specs.Values.{isNumber}
+use Rattle.rules.specs.Answers.{Answer, refused, done, need, goOn, badNumber, ownerUnborn, mailboxEmpty, pairFull, notUnborn, noTimeout, noFit}
 use Rattle.rules.specs.Calls.{Call, single, schedule, nodeBehind, callNode, after}
 use Rattle.rules.specs.Effects.{Effect}
 use Rattle.rules.specs.Guarantees.{Order, SoundKept, Stopped, PlayIsSteps, Cause, undecided, full, taken, Exclusive, rank, Forward}
-use Rattle.rules.specs.Guarantees.{clausesOf, isRefusal, atRecv, isEmpty, Quiet, Confused}
+use Rattle.rules.specs.Guarantees.{opsOf, clausesOf, mayExpire, Timeouts, isRefusal, atRecv, isEmpty, Quiet, Confused}
 use Rattle.rules.specs.Guarantees.{Earlier, turnOf, InTurn, FirstOnOffer, NoneOnOffer}
 use Rattle.rules.specs.Nodes.{Sound, process, mailbox}
-use Rattle.rules.specs.Steps.{Action, run, arrive, timeout, owner, numbered, ownerBorn, signalWaits, pairHasRoom, numberFree, commit, decide, ready, rule, step, play}
+use Rattle.rules.specs.Steps.{Action, run, arrive, timeout, owner, isUnborn, numbered, ownerBorn, signalWaits, pairHasRoom, numberFree, commit, decide, ready, rule, step, play}
 use Rattle.rules.specs.Suggest.{atTurn, acceptable, suggest}
-use Rattle.rules.specs.Timeout.{noneFits}
+use Rattle.rules.specs.Timeout.{atAfter, isLive, noneFits}
 use Rattle.rules.specs.Traces.{owned, Runs}
-use Rattle.rules.proofs.Accepted.{step-rule}
+use Rattle.rules.proofs.Accepted.{need-done, step-rule}
+use Rattle.rules.proofs.All.{both, parts}
 use Rattle.rules.proofs.Sample.{started}
 use Rattle.rules.proofs.Suggest.{acceptable-goes}
 use Rattle.rules.proofs.Witness.{started-sound, early, late, mixed, early-steps, late-steps, mixed-steps}
@@ -197,6 +202,31 @@ quiet-only q n i j s = only mailboxEmpty n i j _ (q n (run i) s) (q n (arrive i 
 
 pub confused-only : Confused → (n : Node) (i j : ℕ) → Sound n → Only noFit n i j (atRecv n i && not (isEmpty (mailbox n i)) && noneFits (clausesOf n i) (mailbox n i))
 confused-only q n i j s = only noFit n i j _ (q n (run i) s) (q n (arrive i j) s) (q n (timeout i) s)
+
+-- where the owner may give up, its run is refused with 25 or 29
+pub run-or-timeout : Timeouts → Quiet → Confused → (n m l : Node) (i : ℕ) → Sound n → step n (timeout i) ≡ done m → step n (run i) ≡ done l → ⊥
+unfolding atAfter
+run-or-timeout t q c n m l i s h g = go (isEmpty (mailbox n i)) refl
+  where
+    known : So (isNumber i) × So (mayExpire n i)
+    known =
+        let x = need-done (isNumber i) badNumber _ (sym (t n i s) ∙ h) in
+        let y = need-done (not (isUnborn (process n i .stage))) ownerUnborn _ (x .1) in
+        (x .0, need-done (mayExpire n i) noTimeout _ (y .1) .0)
+
+    refusal : {k : ℕ} → step n (run i) ≡ refused k → ⊥
+    refusal e = let z : _≡_ {A = ℕ} 0 1 = cc (sym e ∙ g) in omega arith
+
+    waits : So (atRecv n i) × So (noneFits (clausesOf n i) (mailbox n i))
+    waits =
+        let all = parts (isLive (process n i .stage) && atAfter (opsOf n i) (process n i .place)) (noneFits (clausesOf n i) (mailbox n i)) (known .1) in
+        let here = parts (isLive (process n i .stage)) (atAfter (opsOf n i) (process n i .place)) (all .0) in
+        let recv = parts (eqb (getD (opsOf n i) (process n i .place) noOp .number) recvOp) _ (here .1) in
+        (both (both (known .0) (here .0)) (recv .0), all .1)
+
+    go : (b : Bool) → isEmpty (mailbox n i) ≡ b → ⊥
+    go true e = refusal (quiet-only q n i i s .1 (both (waits .0) e))
+    go false e = refusal (confused-only c n i i s .1 (both (both (waits .0) (ap not e)) (waits .1)))
 
 -- ---- InTurn, FirstOnOffer and NoneOnOffer
 
