@@ -20,17 +20,18 @@ use Rattle.rules.proofs.All.{map-at}
 use Rattle.rules.proofs.Suggest.{possible-count, turnStep, possible-at}
 use Rattle.actions.specs.Numbers.{encode, decode, actionOf, possibleNumbers}
 
+-- by whether the turn is a run's, and whether it is a timeout's
+abbrev made : ℕ → Bool → Bool → Step
+made k b c = record { kind = cond b 0 (cond c 2 1); owner = record { 0 = k / 18 + 1 }; from = record { 0 = k % 18 - 1 } }
+
 abbrev stepAt : ℕ → Step
-stepAt k = record { kind = cond (eqb (k % 18) 0) 0 (cond (eqb (k % 18) 1) 2 1); owner = record { 0 = k / 18 + 1 }; from = record { 0 = k % 18 - 1 } }
+stepAt k = made k (eqb (k % 18) 0) (eqb (k % 18) 1)
 
 of-turn : (k : ℕ) → stepAt k ≡ recordOf (turnStep k)
 unfolding turnStep recordOf
 of-turn k = go (eqb (k % 18) 0) refl (eqb (k % 18) 1) refl
   where
-    made : Bool → Bool → Step
-    made b c = record { kind = cond b 0 (cond c 2 1); owner = record { 0 = k / 18 + 1 }; from = record { 0 = k % 18 - 1 } }
-
-    go : (b : Bool) → eqb (k % 18) 0 ≡ b → (c : Bool) → eqb (k % 18) 1 ≡ c → made b c ≡ recordOf (cond b (run (k / 18 + 1)) (cond c (timeout (k / 18 + 1)) (arrive (k / 18 + 1) (k % 18 - 1))))
+    go : (b : Bool) → eqb (k % 18) 0 ≡ b → (c : Bool) → eqb (k % 18) 1 ≡ c → made k b c ≡ recordOf (cond b (run (k / 18 + 1)) (cond c (timeout (k / 18 + 1)) (arrive (k / 18 + 1) (k % 18 - 1))))
     go true p c q = rw (eqb-true (k % 18) 0 p)
     go false p true q = rw (eqb-true (k % 18) 1 q)
     go false p false q = refl
