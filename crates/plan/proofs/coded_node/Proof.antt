@@ -44,7 +44,8 @@ loop-again c =
     let loop-test = c .before .loop-test in
     let turn = c .before .before .loop in
     let start = c .before .before .before .before .before .before .before in
-    (search needs, started-more _ (start .args .codes .starts) (turn .k) (turn .inv .1) (omega (arith, loop-test .taken, sym (length-map (start .args .codes .starts) _) ∙ start .good .0 .1 .1 .1 .1 .0 .1 .0 .1)) (c .process-of .ensures))
+    let size = sym (length-map (start .args .codes .starts) _) ∙ start .good .0 .1 .1 .1 .1 .0 .1 .0 .1 in
+    (search needs, started-more _ (start .args .codes .starts) (turn .k) (turn .inv .1) (omega (arith, loop-test .taken, size)) (c .process-of .ensures))
 
 returns : tie.Need-returns Inv-loop μ-loop
 unfolding blankNode

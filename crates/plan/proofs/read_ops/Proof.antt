@@ -44,7 +44,8 @@ returns c =
     let turn = c .before .before .before .before .before .before .loop in
     let args = c .before .before .before .before .before .before .before .before .before .args in
     mapped-on _ _ (withOps (withOps (codedNode (args .codes)) [])) (withOps (codedNode (args .codes))) _
-    (turn-stop _ _ _ (turn .inv .1) (λ (x : Op). x) (record { is = op-at .ensures .is ∙ mapped-same _; within = op-at .ensures .within }) (left-one _ _ (loop-test .taken)) (codedNode (turn .n)) (c .if1 .taken))
+    (turn-stop _ _ _ (turn .inv .1) (λ (x : Op). x) (record { is = op-at .ensures .is ∙ mapped-same _; within = op-at .ensures .within })
+    (left-one _ _ (loop-test .taken)) (codedNode (turn .n)) (c .if1 .taken))
     (λ ops e. e ∙ ops-anew (codedNode (args .codes)) ops)
 
 mul-at : tie.Need-mul-at Inv-loop μ-loop

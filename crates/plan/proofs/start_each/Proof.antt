@@ -66,13 +66,15 @@ loop-again c =
       search needs,
       turn-more _ _ _ (turn .inv .1) (λ (x : Start). x) (start-read _ (turn .mark) (args .count) (codedNode (args .codes)) (turn .inv .1 .xs) (start-at .ensures .0) (turn .inv .1 .made))
           (left-one _ _ (loop-test .taken)) (if1 .left)
-          (λ x e. begun-more (codedNode (args .codes)) (turn .inv .1 .xs) (started (turn .n) (start-at .result .start) (c .index .ensures) (start-least _ (turn .mark) (args .count) (turn .last) (start-at .ensures .0) (if1 .left))) (turn .inv .1 .made) e),
+          (λ x e. begun-more (codedNode (args .codes)) (turn .inv .1 .xs) (started (turn .n) (start-at .result .start) (c .index .ensures)
+          (start-least _ (turn .mark) (args .count) (turn .last) (start-at .ensures .0) (if1 .left))) (turn .inv .1 .made) e),
     )
 
 returns-2 : tie.Need-returns-2 Inv-loop μ-loop
 returns-2 c =
     let args = c .before .before .before .args in
-    mapped-on _ _ (begun (codedNode (args .codes))) (withEach withStart (codedNode (args .codes))) _ (turn-end _ _ _ (c .before .loop .inv .1) (omega arith)) (λ starts e. ap (λ (b : Node × ProcessNumber). b .0) e)
+    mapped-on _ _ (begun (codedNode (args .codes))) (withEach withStart (codedNode (args .codes))) _
+    (turn-end _ _ _ (c .before .loop .inv .1) (omega arith)) (λ starts e. ap (λ (b : Node × ProcessNumber). b .0) e)
 
 pub start-each-spec : {M : Type 1} → statement M
 start-each-spec =

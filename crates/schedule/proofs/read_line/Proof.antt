@@ -70,7 +70,8 @@ returns-3 : tie.Need-returns-3
 returns-3 c =
     let d = c .before .before .before in
     let b = d .before .before .before in
-    line-timeout _ (b .before .before .before .starts .ensures) (b .before .before .if1 .left) (b .starts2 .ensures) (d .before .before .if2 .left) (d .starts3 .ensures) (c .before .before .if3 .taken)
+    line-timeout _ (b .before .before .before .starts .ensures) (b .before .before .if1 .left) (b .starts2 .ensures) (d .before .before .if2 .left)
+    (d .starts3 .ensures) (c .before .before .if3 .taken)
     (c .own2 .ensures)
 
 returns-4 : tie.Need-returns-4
