@@ -32,6 +32,7 @@ use node::Value;
 use node::fallen;
 use node::risen;
 use receive::Found;
+use receive::Kinds;
 
 // What a play tells: how many steps were accepted, the refusal that ended it (0 if none), and the node then. The node stands first: with
 // no gap before it, the compiler leaves out copies of it.
@@ -185,26 +186,33 @@ fn core(n: Node, numbers: &[u32], looks: bool) -> Played
         let mut refusal = e.refusal;
         let mut next = e.process;
         let first = 16 * k;
-        let mut m = first;
-        let mut top = first;
         if e.receives {
             let count = up_to(waiting, 16);
-            top = first + count;
+            let top = first + count;
             let end = clauses_end(x, op.small);
+            let mut noted = Kinds::none();
+            let mut d = x + 1;
+            while d < end {
+                noted = noted.noted(node.ops[d]);
+                d += 1;
+            }
+            let kinds = noted.widened();
             let mut found = Found::Silent;
             let mut slot = first;
             'messages: while slot < top {
                 let held = node.slots[slot];
                 let message = held.message;
                 found = Found::Unfit;
-                let mut c = x + 1;
-                while c < end {
-                    let clause = node.ops[c];
-                    if receive::fits(clause, message) {
-                        found = Found::Fit(slot - first, clause, message);
-                        break 'messages;
+                if kinds.takes(message) {
+                    let mut c = x + 1;
+                    while c < end {
+                        let clause = node.ops[c];
+                        if receive::fits(clause, message) {
+                            found = Found::Fit(slot - first, clause, message);
+                            break 'messages;
+                        }
+                        c += 1;
                     }
-                    c += 1;
                 }
                 slot += 1;
             }
@@ -213,11 +221,22 @@ fn core(n: Node, numbers: &[u32], looks: bool) -> Played
                 let behind = node.ops[y];
                 next = p.moved(behind.target);
                 refusal = receive::timeout_refusal(found, p.place, op.small, node.lens[w], behind);
-                m = top;
             } else {
-                next = receive::after_search(p, found);
                 refusal = receive::search_refusal(found);
-                m = first + receive::fit_index(found, count);
+                if refusal == 0 {
+                    if looks {
+                        return ended(t, 0, node);
+                    }
+                    node.processes[k] = receive::after_search(p, found);
+                    node.waiting[k] = fallen(waiting);
+                    let mut m = first + receive::fit_index(found, count);
+                    while m + 1 < top {
+                        let later = node.slots[m + 1];
+                        node.slots[m] = later;
+                        m += 1;
+                    }
+                    continue;
+                }
             }
         }
         if e.sends {
@@ -238,14 +257,6 @@ fn core(n: Node, numbers: &[u32], looks: bool) -> Played
             return ended(t, 0, node);
         }
         node.processes[k] = next;
-        if m < top {
-            node.waiting[k] = fallen(waiting);
-            while m + 1 < top {
-                let slot = node.slots[m + 1];
-                node.slots[m] = slot;
-                m += 1;
-            }
-        }
         if e.joins {
             let message = e.message;
             let join = first + up_to(waiting, 15);

@@ -1,12 +1,16 @@
-// Receiving: which message a clause takes, what the search of a mailbox answers and what a process makes of it, and giving up. The loop of the
-// search is part of the engine's, which reads messages and clauses where they stand; all that follows from it is told by its answer, here.
+// Receiving: which message a clause takes, which kinds clauses can take, the search of a mailbox, what a process makes of its answer, and giving
+// up. The engine searches where messages and clauses stand, by the same parts as `search`; all that follows is told by the answer, here.
 ghost use mathlib.Core.Bool.{_&&_};
 ghost use mathlib.Core.Path.{_≡_};
 ghost use lib.Dec.{eqb, ltb};
 ghost use Rattle.node.specs.Ops.{recvOp};
 ghost use Rattle.node.specs.Processes.{moved};
+ghost use Prim.Native.Nat.{_≤_, _-_, min};
+ghost use lib.ListN.{take, drop};
+ghost use Rattle.rules.specs.Consult.{consulted};
 ghost use Rattle.rules.specs.Receive.{isValue, fits, withSender, withMessage, searchNumber};
-ghost use Rattle.receive.specs.Found.{foundOf, afterSearch, fitIndex};
+ghost use Rattle.receive.specs.Found.{foundOf, afterSearch, fitIndex, clausesIn, mailIn, searchedIn};
+ghost use Rattle.receive.specs.Kinds.{noKinds, noted, notedAll, widened, takes};
 ghost use Rattle.receive.specs.Waiting.{awaits, isFit, timeoutRefusal};
 use node::AFTER;
 use node::ANY;
@@ -19,6 +23,7 @@ use node::Op;
 use node::Process;
 use node::ProcessNumber;
 use node::RECV;
+use node::Slot;
 use node::Stage;
 use node::Value;
 use node::same_value;
@@ -29,6 +34,123 @@ pub enum Found {
     Silent,
     Unfit,
     Fit(usize, Op, Message),
+}
+
+// What a search tells: its answer, and how many clauses it consulted.
+pub struct Searched {
+    pub found: Found,
+    pub consulted: usize,
+}
+
+// A set of kinds of messages: bit k for kind k. While clauses are noted, the bit of `any` stands for every kind.
+pub struct Kinds(pub usize);
+
+impl Kinds {
+    pub fn none() -> Kinds
+        ensures { λ r. ⌜ r ≡ noKinds ⌝ }
+    {
+        Kinds(0)
+    }
+
+    // What clause c can take is noted.
+    pub fn noted(self, c: Op) -> Kinds
+        ensures { λ r. ⌜ r ≡ noted self c ⌝ }
+    {
+        let kind = c.small;
+        if kind == EXACT {
+            let w = c.value;
+            return Kinds(self.0 | (1 << w.kind()));
+        }
+        if kind < 8 {
+            return Kinds(self.0 | (1 << kind));
+        }
+        self
+    }
+
+    // All clauses are noted: where `any` is one of them, every kind can be taken.
+    pub fn widened(self) -> Kinds
+        ensures { λ r. ⌜ r ≡ widened self ⌝ }
+    {
+        if (self.0 >> ANY) % 2 == 1 {
+            return Kinds(124);
+        }
+        self
+    }
+
+    // The kind of message m is one of them.
+    pub fn takes(self, m: Message) -> bool
+        ensures { λ b. ⌜ b ≡ takes self m ⌝ }
+    {
+        (self.0 >> m.kind()) % 2 == 1
+    }
+}
+
+// The search of a mailbox that has `count` messages, from slot `first` on, by `clauses` clauses, from op `at` on; past the end of an array stand
+// none. First the kinds that the clauses can take are noted; then clauses are consulted for messages of those kinds only.
+pub fn search(
+    slots: [Slot; 256],
+    first: usize,
+    count: u8,
+    ops: [Op; 256],
+    at: usize,
+    clauses: u8,
+) -> Searched
+    ensures answer { λ r. ⌜ foundOf (r .found) ≡ searchedIn (clausesIn ops at clauses) (mailIn slots first count) ⌝ }
+    ensures count { λ r. ⌜ r .consulted ≡ consulted (clausesIn ops at clauses) (mailIn slots first count) ⌝ }
+{
+    let from = within(first);
+    let top = within(from + (count as usize));
+    let low = within(at);
+    let end = within(low + (clauses as usize));
+    let kinds = kinds_of(ops, low, end);
+    let mut found = Found::Silent;
+    let mut consulted: usize = 0;
+    let mut slot = from;
+    'messages: while slot < top {
+        let held = slots[slot];
+        let message = held.message;
+        found = Found::Unfit;
+        if kinds.takes(message) {
+            let mut c = low;
+            while c < end {
+                let clause = ops[c];
+                if fits(clause, message) {
+                    consulted += c - low + 1;
+                    found = Found::Fit(slot - from, clause, message);
+                    break 'messages;
+                }
+                c += 1;
+            }
+            consulted += end - low;
+        }
+        slot += 1;
+    }
+    Searched { found, consulted }
+}
+
+// An index that is within an array of 256, or the end of one.
+fn within(k: usize) -> usize
+    ensures { λ r. ⌜ r ≡ min k 256 ⌝ }
+{
+    if k < 256 {
+        return k;
+    }
+    256
+}
+
+// The kinds that the clauses from `low` to before `end` can take.
+fn kinds_of(ops: [Op; 256], low: usize, end: usize) -> Kinds
+    requires { ⌜ low ≤ end ⌝ }
+    requires { ⌜ end ≤ 256 ⌝ }
+    ensures { λ r. ⌜ r ≡ widened (notedAll noKinds (take (end - low) (drop low ops))) ⌝ }
+{
+    let mut kinds = Kinds::none();
+    let mut c = low;
+    while c < end {
+        kinds = kinds.noted(ops[c]);
+        c += 1;
+    }
+    kinds.widened()
 }
 
 // 25, 29, or 0.

@@ -34,8 +34,9 @@ use Rattle.node.specs.Values.{isNumber}
 use Rattle.rules.specs.Answers.{Answer, refused, done, need, goOn, badNumber, ownerUnborn, mailboxEmpty, pairFull, notUnborn, noTimeout, noFit}
 use Rattle.rules.specs.Calls.{Call, single, schedule, nodeBehind, callNode, after}
 use Rattle.rules.specs.Effects.{Effect}
+use Rattle.rules.specs.Consult.{opsOf, clausesOf, atRecv}
 use Rattle.rules.specs.Guarantees.{Order, SoundKept, Stopped, PlayIsSteps, Cause, undecided, full, taken, Exclusive, rank, Forward}
-use Rattle.rules.specs.Guarantees.{opsOf, clausesOf, mayExpire, Timeouts, isRefusal, atRecv, isEmpty, Quiet, Confused}
+use Rattle.rules.specs.Guarantees.{mayExpire, Timeouts, isRefusal, isEmpty, Quiet, Confused}
 use Rattle.rules.specs.Guarantees.{Earlier, turnOf, InTurn, FirstOnOffer, NoneOnOffer}
 use Rattle.rules.specs.Nodes.{Sound, process, mailbox}
 use Rattle.rules.specs.Steps.{Action, run, arrive, timeout, owner, isUnborn, numbered, ownerBorn, signalWaits, pairHasRoom, numberFree, commit, decide, ready, rule, step, play}

@@ -20,6 +20,7 @@ pub mod Paths
 pub mod Refusals
 pub mod Waiting
 pub mod Suggest
+pub mod Consult
 pub mod Sample
 pub mod Witness
 pub mod Consequences

@@ -13,7 +13,8 @@ use lib.Dec.{ltb}
 use lib.ListN.{length, drop}
 use Rattle.node.specs.declared.Node.{Node}
 use Rattle.rules.specs.Answers.{refused, badNumber, ownerUnborn, noneInFlight, pairFull, notUnborn, noFit, notSound, scheduleTooLong}
-use Rattle.rules.specs.Guarantees.{Stopped, opsOf, atRecv}
+use Rattle.rules.specs.Consult.{opsOf, atRecv}
+use Rattle.rules.specs.Guarantees.{Stopped}
 use Rattle.rules.specs.Nodes.{Sound, sound}
 use Rattle.rules.specs.Steps.{Action, run, arrive, timeout, owner, state, incoming, numbered, ownerBorn, signalWaits, pairHasRoom, numberFree, decide, ready, rule, played, play}
 use Rattle.rules.specs.Timeout.{isLive}

@@ -22,7 +22,8 @@ use Rattle.node.specs.Ops.{recvOp}
 use Rattle.node.specs.Values.{isNumber}
 use Rattle.rules.specs.Answers.{Answer, refused, done, mailboxEmpty, noFit}
 use Rattle.rules.specs.Effects.{State}
-use Rattle.rules.specs.Guarantees.{opsOf, clausesOf, isRefusal, atRecv, isEmpty, Quiet, Confused}
+use Rattle.rules.specs.Consult.{opsOf, clausesOf, atRecv}
+use Rattle.rules.specs.Guarantees.{isRefusal, isEmpty, Quiet, Confused}
 use Rattle.rules.specs.Nodes.{Sound, process, mailbox}
 use Rattle.rules.specs.Receive.{Fit, search, firstFit, Searched, silent, unfit, fit, answered, receivesBy, receives}
 use Rattle.rules.specs.Run.{runsOp, runsLive, runs}

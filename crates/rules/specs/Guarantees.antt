@@ -1,5 +1,6 @@
--- The guarantees on these rules. Each is proved in proofs/Order.antt, those of M-102, M-104 and M-105 in proofs/Expiry.antt, proofs/Waiting.antt and
--- proofs/Suggest.antt, under the name beside it; proofs/Consequences.antt draws from each what a weaker statement would not give.
+-- The guarantees on these rules. Each is proved in proofs/Order.antt, those of M-102, M-104, M-105 and M-106 in proofs/Expiry.antt,
+-- proofs/Waiting.antt, proofs/Suggest.antt and proofs/Consult.antt, under the name beside it; proofs/Consequences.antt draws from each what a weaker
+-- statement would not give.
 --   Order        order         demand 3: lists in which each process has the same accepted steps in the same order end in equal nodes
 --   SoundKept    sound-kept    an accepted step and a play of a sound node leave a sound node
 --   PlayIsSteps  play-is-steps a play of a sound node is its steps one after another, up to the first refusal
@@ -11,6 +12,8 @@
 --   InTurn       in-turn       M-105: the possible steps are 288, each once, in the order of the request
 --   FirstOnOffer first-on-offer M-105: a step is suggested exactly where it would be accepted and every earlier one refused
 --   NoneOnOffer  none-on-offer M-105: none is suggested on a sound node exactly where every step would be refused
+--   SameFit      same-fit      M-106: the search that leaves out messages of other kinds finds what document 01's does
+--   FewConsulted few-consulted M-106: at most each clause once for each message
 use mathlib.Core.Bool.{Bool, true, false, So, not, _&&_}
 use mathlib.Core.List.{List, [], _∷_}
 use mathlib.Core.Logic.{_⊎_}
@@ -30,8 +33,10 @@ use Rattle.node.specs.Processes.{moved}
 use Rattle.node.specs.Values.{isNumber}
 use Rattle.rules.specs.Answers.{Answer, refused, done, need, badNumber, ownerUnborn, mailboxEmpty, pairFull, notUnborn, noTimeout, noFit}
 use Rattle.rules.specs.Calls.{Call, after, acceptedBy}
+use Rattle.rules.specs.Consult.{byKind, consulted, opsOf, clausesOf, atRecv}
 use Rattle.rules.specs.Effects.{Effect}
 use Rattle.rules.specs.Nodes.{Sound, code, process, mailbox}
+use Rattle.rules.specs.Receive.{search}
 use Rattle.rules.specs.Steps.{Action, run, arrive, timeout, owner, isUnborn, numbered, signalWaits, pairHasRoom, numberFree, decide, step, play}
 use Rattle.rules.specs.Suggest.{possible, atTurn, acceptable, suggest}
 use Rattle.rules.specs.Timeout.{behindClauses, atAfter, isLive, noneFits}
@@ -78,13 +83,6 @@ rank Gone = 3
 abbrev pub Forward : Type 0
 Forward = (n m : Node) (a : Action) → step n a ≡ done m → (i : ℕ) → rank (process n i .stage) ≤ rank (process m i .stage)
 
--- the ops of process i's behaviour, and the clauses of the recv at which it is
-abbrev pub opsOf : Node → ℕ → List Op
-opsOf n i = code n (process n i .behaviour .0)
-
-abbrev pub clausesOf : Node → ℕ → List Op
-clausesOf n i = let t = process n i .place in take (getD (opsOf n i) t noOp .small) (drop (t + 1) (opsOf n i))
-
 -- "a live process at such a recv .. if no message fits"
 abbrev pub mayExpire : Node → ℕ → Bool
 mayExpire n i = isLive (process n i .stage) && atAfter (opsOf n i) (process n i .place) && noneFits (clausesOf n i) (mailbox n i)
@@ -117,10 +115,6 @@ Timeouts =
 abbrev pub isRefusal : ℕ → Answer Node → Bool
 isRefusal k (refused m) = eqb m k
 isRefusal k (done n) = false
-
--- i is the number of a live process at a recv; past the code stands no op
-abbrev pub atRecv : Node → ℕ → Bool
-atRecv n i = isNumber i && isLive (process n i .stage) && eqb (getD (opsOf n i) (process n i .place) noOp .number) recvOp
 
 abbrev pub isEmpty : List Message → Bool
 isEmpty [] = true
@@ -177,3 +171,13 @@ abbrev pub NoneOnOffer : Type 0
 NoneOnOffer =
     (n : Node) → Sound n →
     (suggest n ≡ done none → (a : Action) → acceptable n a ≡ false) × (((a : Action) → acceptable n a ≡ false) → suggest n ≡ done none)
+
+abbrev pub SameFit : Type 0
+SameFit = (cs : List Op) (i : ℕ) (ms : List Message) → byKind cs i ms ≡ search cs i ms
+
+-- "else its clauses up to the first that fits, or all"
+abbrev pub FewConsulted : Type 0
+FewConsulted =
+    (cs : List Op) →
+    ((m : Message) (ms : List Message) → consulted cs (m ∷ ms) ≤ length cs + consulted cs ms)
+    × ((ms : List Message) → consulted cs ms ≤ length ms * length cs)

@@ -5,6 +5,7 @@ pub mod Effects
 pub mod Receive
 pub mod Run
 pub mod Timeout
+pub mod Consult
 pub mod Arrive
 pub mod Steps
 pub mod Suggest

@@ -1,7 +1,7 @@
 -- What a decision changes of counts, slots and cells, whether it does or not. Assumes nothing.
 --   cellAt row k      the cell behind the k signals of a row, within its array whatever k is
 --   searchedOf k e    how many of k messages are searched
---   waitingNext k b e how many messages wait behind the decision, where k did before it and b says that one leaves
+--   waitingNext k e   how many messages wait behind the decision, where k did before it and none leaves
 --   sentNext k e      how many signals its row has
 --   cellNext c e      what the cell holds in which a signal is sent
 --   slotNext s e      what the slot holds in which a message joins
@@ -19,8 +19,8 @@ cellAt row k = min (4 * row + k) 1023
 unfoldable pub searchedOf : ℕ → Decision → ℕ
 searchedOf k e = cond (e .receives) (min k 16) 0
 
-unfoldable pub waitingNext : ℕ → Bool → Decision → ℕ
-waitingNext k b e = cond (e .joins) (min (k + 1) 255) (cond b (k - 1) k)
+unfoldable pub waitingNext : ℕ → Decision → ℕ
+waitingNext k e = cond (e .joins) (min (k + 1) 255) k
 
 unfoldable pub sentNext : ℕ → Decision → ℕ
 sentNext k e = cond (e .sends) (min (k + 1) 255) k

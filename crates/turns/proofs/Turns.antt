@@ -51,6 +51,9 @@ use Rattle.rules.specs.Timeout.{behindClauses, atAfter, expiresIf, expiresLive,
 use Rattle.rules.proofs.Commute.{incoming-oldest}
 use Rattle.receive.specs.Found.{afterSearch, fitIndex}
 use Rattle.receive.specs.Waiting.{timeoutRefusal}
+use Rattle.receive.specs.declared.Kinds.{Kinds}
+use Rattle.receive.specs.Kinds.{noKinds, noted, notedAll, widened, takes}
+use Rattle.receive.proofs.KindSets.{left-out, noting-turn, noting-end}
 use Rattle.receive.proofs.Laws.{message-turn, message-end, clause-hit, clause-miss, clause-end, soFar, answered-none, answered-fit}
 use Rattle.rules.proofs.Living.{alive}
 use Rattle.rules.proofs.Keeps.{MailOk, Keeps, NotBoth}
@@ -252,6 +255,7 @@ module _ (n : Node) (sound : Sound n) {a : Action} (t : Decoded) (m : Means a t)
     pub decided : decide n a ≡ answerOf (t .expires) codeHere i (stateOf P M) e
     pub only : e .receives ≡ true → Only e × AtRecv codeHere i (stateOf P []) × Stands n P
     pub births : e .spawns ≡ true → t .arrives ≡ false
+    pub seeks : e .receives ≡ true → t .arrives ≡ false
 
   Early : Decision → Type 0
   Early e = (e .refusal ≡ 0 → ⊥) × (e .receives ≡ false) × (rule n a ≡ refused (e .refusal))
@@ -297,8 +301,8 @@ module _ (n : Node) (sound : Sound n) {a : Action} (t : Decoded) (m : Means a t)
 
     -- what is known of every step that comes so far
     ready-by : (e : Decision) → So (signalWaits n a) → decide n a ≡ answerOf (t .expires) codeHere i (stateOf P M) e →
-        (e .receives ≡ true → Only e × AtRecv codeHere i (stateOf P []) × Stands n P) → (e .spawns ≡ true → t .arrives ≡ false) → Ready e
-    ready-by e waits decided only births = record {
+        (e .receives ≡ true → Only e × AtRecv codeHere i (stateOf P []) × Stands n P) → (e .spawns ≡ true → t .arrives ≡ false) → (e .receives ≡ true → t .arrives ≡ false) → Ready e
+    ready-by e waits decided only births seeks = record {
       numbers = numbers-ok;
       awake = awake-ok;
       waits = waits;
@@ -308,6 +312,7 @@ module _ (n : Node) (sound : Sound n) {a : Action} (t : Decoded) (m : Means a t)
       decided = decided;
       only = only;
       births = births;
+      seeks = seeks;
     }
 
     none-waits : t .arrives ≡ true → eqb C 0 ≡ true → rule n a ≡ refused noneInFlight
@@ -330,6 +335,7 @@ module _ (n : Node) (sound : Sound n) {a : Action} (t : Decoded) (m : Means a t)
         (rw (action, first, ← at-is) (sym (means ∙ arrival-means codeHere (t .owner) (t .from) P M X)))
         (λ h. absurd (false≢true (sym (arrival-quiet (t .owner) (t .from) P W X .0) ∙ (rw s at h))))
         (λ h. absurd (false≢true (sym (arrival-quiet (t .owner) (t .from) P W X .1) ∙ (rw s at h))))
+        (λ h. absurd (false≢true (sym (arrival-quiet (t .owner) (t .from) P W X .0) ∙ (rw s at h))))
 
     here : P ≡ process n i
     here = rw at-is
@@ -351,6 +357,7 @@ module _ (n : Node) (sound : Sound n) {a : Action} (t : Decoded) (m : Means a t)
         let inside : P .place < length codeHere = rw (there .size) (w .1 .inside) in
         (subst Only (sym s) (w .0), record { live = w .1 .live; inside = inside; recv = rw (there .op inside) (w .1 .recv) }, there))
         (λ h. arr)
+        (λ h. arr)
 
     run-ready : t .arrives ≡ false → t .expires ≡ false → (e : Decision) → e ≡ ran (t .owner) P L O → Ready e
     unfolding signalWaits decide
@@ -362,6 +369,7 @@ module _ (n : Node) (sound : Sound n) {a : Action} (t : Decoded) (m : Means a t)
         (λ h.
         let recv = only-recv codeHere i (stateOf P []) (sym (answers []) ∙ rw h (none-received codeHere (stateOf P []))) in
         (subst Only (sym s) (run-only (t .owner) P L O (rw s at h)), recv, stands (recv .live)))
+        (λ h. arr)
         (λ h. arr)
 
   -- ---- the decision
@@ -565,29 +573,34 @@ module _ (n : Node) (sound : Sound n) {a : Action} (t : Decoded) (m : Means a t)
     abbrev pub sentAt : ℕ
     sentAt = cellAt Y sentBefore
 
-    -- the mail, where the search ended at slot k and those behind it moved up
-    abbrev pub storedMail : ℕ → Shelf Slot
-    storedMail k = record {
-      cells = set (up k top (n .slots)) join (slotNext (getD (up k top (n .slots)) join noMessage) e);
-      counts = set (n .waiting) (t .at) (waitingNext W (ltb k top) e);
-    }
+    -- the mail, where no message leaves
+    abbrev pub storedMail : Shelf Slot
+    storedMail = record { cells = set (n .slots) join (slotNext (getD (n .slots) join noMessage) e); counts = set (n .waiting) (t .at) (waitingNext W e) }
+
+    -- the mail, where the message in slot k leaves and those behind it move up
+    abbrev pub leftMail : ℕ → Shelf Slot
+    leftMail k = record { cells = up k top (n .slots); counts = set (n .waiting) (t .at) (W - 1) }
 
     abbrev pub storedFlight : Shelf Cell
     storedFlight = record { cells = set (n .cells) sentAt (cellNext (getD (n .cells) sentAt noSignal) e); counts = set (n .counts) Y (sentNext sentBefore e) }
 
-    -- the step is accepted: its owner becomes next, and the search ended at slot k
-    pub record Committed (next : Process) (k : ℕ) : Type 0 where
+    -- the step is accepted: its owner becomes next, and no message leaves
+    pub record Committed (next : Process) : Type 0 where
       pub cleared : Cleared
       pub effect : Effect
       pub answer : rule n a ≡ done (commit n a effect)
       pub process : effect .process ≡ next
-      pub mail : withMail (mailShelf n) (owner a - 1) (effect .mail) ≡ storedMail k
+      pub mail : withMail (mailShelf n) (owner a - 1) (effect .mail) ≡ storedMail
       pub sent : effect .sent ≡ sentOf e
       pub born : effect .born ≡ bornOf i e
 
-    -- what is known of a refusal k, with a next process and the slot where the search ended
-    abbrev pub Verdict : ℕ → Process → ℕ → Type 0
-    Verdict k next j = ((k ≡ 0 → ⊥) × (rule n a ≡ refused k)) ⊎ ((k ≡ 0) × Committed next j)
+    -- what is known of a refusal k, with a next process
+    abbrev pub Verdict : ℕ → Process → Type 0
+    Verdict k next = ((k ≡ 0 → ⊥) × (rule n a ≡ refused k)) ⊎ ((k ≡ 0) × Committed next)
+
+    -- the node behind a recv whose search answers s, where that is a fit
+    abbrev pub received : Searched → Node
+    received s = made n (set (n .processes) (t .at) (afterSearch P s)) (leftMail (16 * t .at + fitIndex (min W 16) s)) (flightShelf n)
 
     no-join : e .joins ≡ false → (l : List Slot) → set l join (slotNext (getD l join noMessage) e) ≡ l
     unfolding slotNext
@@ -680,43 +693,35 @@ module _ (n : Node) (sound : Sound n) {a : Action} (t : Decoded) (m : Means a t)
       owner-at : owner a - 1 ≡ t .at
       owner-at = rw (cleared-ready .owned) (sym (cleared-ready .at))
 
+      ok : t .bad ≡ false
+      ok = m .bad ∙ rw (cleared-ready .numbers)
+
       mail-room : Room 16 (t .at) (mailShelf n)
       mail-room = record { cells = rw (sizes .mail .cells) (let x = at-bound in omega arith); counts = rw (sizes .mail .counts) at-bound }
 
       -- no message joins, and none leaves
-      mail-same : e .joins ≡ false → (k : ℕ) → top ≤ k → mailShelf n ≡ storedMail k
-      unfolding searchedOf waitingNext slotNext
-      mail-same h k above =
-          let same : up k top (n .slots) ≡ n .slots = up-end k top (n .slots) (omega (arith, above)) in
-          let cells : set (up k top (n .slots)) join (slotNext (getD (up k top (n .slots)) join noMessage) e) ≡ n .slots = rw same (no-join h (n .slots)) in
-          let counts : set (n .waiting) (t .at) (waitingNext W (ltb k top) e) ≡ n .waiting = rw (h, le-ltb k top above) (set-getD (n .waiting) (t .at) 0) in
+      mail-same : e .joins ≡ false → mailShelf n ≡ storedMail
+      unfolding waitingNext
+      mail-same h =
+          let cells = no-join h (n .slots) in
+          let counts : set (n .waiting) (t .at) (waitingNext W e) ≡ n .waiting = rw h (set-getD (n .waiting) (t .at) 0) in
           λ x. record { cells = sym cells x; counts = sym counts x }
 
-      mail-quiet : e .receives ≡ false → (b : Bool) → e .joins ≡ b → withMail (mailShelf n) (owner a - 1) (cond b (joining (e .message)) unchanged) ≡ storedMail (16 * t .at)
-      unfolding searchedOf waitingNext slotNext
-      mail-quiet q b h = go b h
-        where
-          above : top ≤ 16 * t .at
-          above = let x : top ≡ 16 * t .at + 0 = rw q in omega (arith, x)
+      mail-quiet : e .receives ≡ false → (b : Bool) → e .joins ≡ b → withMail (mailShelf n) (owner a - 1) (cond b (joining (e .message)) unchanged) ≡ storedMail
+      unfolding waitingNext slotNext
+      mail-quiet q false h = mail-same h
+      mail-quiet q true h =
+          let room : length (mailbox n (owner a)) < 16 = rw h at (keeps (clear .refusal) q .mail) in
+          let few : W < 16 = rw (← owner-at) (rw (messages-length (blockOf 16 (owner a - 1) (mailShelf n))) at room) in
+          let place : 16 * t .at + W ≡ join = omega (arith, few) in
+          let cells : set (n .slots) (16 * t .at + W) (slotOf (e .message)) ≡ set (n .slots) join (slotNext (getD (n .slots) join noMessage) e) = rw (h, place) in
+          let more : W + 1 ≡ min (W + 1) 255 = omega (arith, few) in
+          let counts : set (n .waiting) (t .at) (W + 1) ≡ set (n .waiting) (t .at) (waitingNext W e) = rw (h, ← more) in
+          ap (λ (k : ℕ). changed 16 (joined (slotOf (e .message))) k (mailShelf n)) owner-at
+          ∙ store-joined noMessage 16 (t .at) (mailShelf n) mail-room (slotOf (e .message)) few (omega (arith, few))
+          ∙ (λ x. record { cells = cells x; counts = counts x })
 
-          same : up (16 * t .at) top (n .slots) ≡ n .slots
-          same = up-end (16 * t .at) top (n .slots) (omega (arith, above))
-
-          go : (b : Bool) → e .joins ≡ b → withMail (mailShelf n) (owner a - 1) (cond b (joining (e .message)) unchanged) ≡ storedMail (16 * t .at)
-          go false h = mail-same h (16 * t .at) above
-          go true h =
-              let room : length (mailbox n (owner a)) < 16 = rw h at (keeps (clear .refusal) q .mail) in
-              let few : W < 16 = rw (← owner-at) (rw (messages-length (blockOf 16 (owner a - 1) (mailShelf n))) at room) in
-              let place : 16 * t .at + W ≡ join = omega (arith, few) in
-              let cells : set (n .slots) (16 * t .at + W) (slotOf (e .message)) ≡ set (up (16 * t .at) top (n .slots)) join (slotNext (getD (up (16 * t .at) top (n .slots)) join noMessage) e) = rw
-              (same, h, place) in
-              let more : W + 1 ≡ min (W + 1) 255 = omega (arith, few) in
-              let counts : set (n .waiting) (t .at) (W + 1) ≡ set (n .waiting) (t .at) (waitingNext W (ltb (16 * t .at) top) e) = rw (h, ← more) in
-              ap (λ (k : ℕ). changed 16 (joined (slotOf (e .message))) k (mailShelf n)) owner-at
-              ∙ store-joined noMessage 16 (t .at) (mailShelf n) mail-room (slotOf (e .message)) few (omega (arith, few))
-              ∙ (λ x. record { cells = cells x; counts = counts x })
-
-      pub committed-quiet : e .receives ≡ false → Committed (e .process) (16 * t .at)
+      pub committed-quiet : e .receives ≡ false → Committed (e .process)
       committed-quiet q = record {
         cleared = clear;
         effect = effectOf i e;
@@ -727,53 +732,53 @@ module _ (n : Node) (sound : Sound n) {a : Action} (t : Decoded) (m : Means a t)
         born = refl;
       }
 
-      committed-found : (h : e .receives ≡ true) → t .expires ≡ false → (f : Fit) → S ≡ fit f →
-          Committed (moved (withMessage P (f .clause) (f .message)) (f .clause .target)) (16 * t .at + f .index)
-      unfolding searchedOf waitingNext
-      committed-found h early f found =
+      -- where nothing arrives, the rows are as they were
+      no-arrival : t .arrives ≡ false → withArrival (flightShelf n) a ≡ flightShelf n
+      no-arrival arr =
+          let action : a ≡ cond (t .expires) (timeout i) (run i) = m .action ok ∙ rw arr in
+          ap (withArrival (flightShelf n)) action ∙ go (t .expires)
+        where
+          go : (b : Bool) → withArrival (flightShelf n) (cond b (timeout i) (run i)) ≡ flightShelf n
+          go true = refl
+          go false = refl
+
+      -- the message that fits leaves its mailbox
+      message-left : (h : e .receives ≡ true) → t .expires ≡ false → (f : Fit) → S ≡ fit f → changed 16 (left (f .index)) (owner a - 1) (mailShelf n) ≡ leftMail (16 * t .at + f .index)
+      unfolding searchedOf
+      message-left h early f found =
           let effect : Effect = record { process = moved (withMessage P (f .clause) (f .message)) (f .clause .target); mail = leaving (f .index); sent = none; born = none } in
-          let only = searches (clear .refusal) h in
           let kept = decided-keeps n a effect whole (cleared-ready .numbers) (cleared-ready .waits) (search-decided h early ∙ rw found) in
           let few : W ≤ 16 = rw (← owner-at) (rw (messages-length (blockOf 16 (owner a - 1) (mailShelf n))) at (kept .mail .1)) in
           let here : 16 * t .at + W ≡ top = let x : top ≡ 16 * t .at + min W 16 = rw h in omega (arith, few, x) in
-          let j = 16 * t .at + f .index in
-          let cells : up j (16 * t .at + W) (n .slots) ≡ set (up j top (n .slots)) join (slotNext (getD (up j top (n .slots)) join noMessage) e) = rw here
-          (sym (no-join (only .1) (up j top (n .slots)))) in
-          let size : length (mailbox n (owner a)) ≡ W = rw owner-at mail-size in
-          let inside : f .index < W = rw size at (kept .mail .0) in
-          let counts : set (n .waiting) (t .at) (W - 1) ≡ set (n .waiting) (t .at) (waitingNext W (ltb j top) e) = rw (only .1, lt-ltb j top (omega (arith, inside, here))) in
-          record {
-            cleared = clear;
-            effect = effect;
-            answer = turn-searched h early ∙ rw found;
-            process = refl;
-            mail =
-                ap (λ (k : ℕ). changed 16 (left (f .index)) k (mailShelf n)) owner-at
-                ∙ store-left noMessage 16 (t .at) (mailShelf n) mail-room (f .index) few
-                ∙ (λ x. record { cells = cells x; counts = counts x });
-            sent = rw (only .2);
-            born = rw (only .3);
-          }
+          ap (λ (k : ℕ). changed 16 (left (f .index)) k (mailShelf n)) owner-at
+          ∙ store-left noMessage 16 (t .at) (mailShelf n) mail-room (f .index) few
+          ∙ (λ x. record { cells = up (16 * t .at + f .index) (here x) (n .slots); counts = set (n .waiting) (t .at) (W - 1) })
+
+      received-is : (h : e .receives ≡ true) → t .expires ≡ false → (f : Fit) → S ≡ fit f → rule n a ≡ done (received (fit f))
+      unfolding commit
+      received-is h early f found =
+          let next = moved (withMessage P (f .clause) (f .message)) (f .clause .target) in
+          turn-searched h early ∙ rw found
+          (λ x. done (made n (set (n .processes) (owner-at x) next) (message-left h early f found x) (no-arrival (cleared-ready .seeks h) x)))
 
       -- a run: it is refused, or the message that fits leaves
-      pub early-searched : (h : e .receives ≡ true) → t .expires ≡ false → Verdict (searchNumber S) (afterSearch P S) (16 * t .at + fitIndex (min W 16) S)
+      early-searched : (h : e .receives ≡ true) → t .expires ≡ false → ((searchNumber S ≡ 0 → ⊥) × (rule n a ≡ refused (searchNumber S))) ⊎ ((searchNumber S ≡ 0) × (rule n a ≡ done (received S)))
       early-searched h early = go S refl
         where
-          go : (s : Searched) → S ≡ s → Verdict (searchNumber s) (afterSearch P s) (16 * t .at + fitIndex (min W 16) s)
+          go : (s : Searched) → S ≡ s → ((searchNumber s ≡ 0 → ⊥) × (rule n a ≡ refused (searchNumber s))) ⊎ ((searchNumber s ≡ 0) × (rule n a ≡ done (received s)))
           go silent q = inl ((λ z. omega (arith, z)), turn-searched h early ∙ rw q)
           go unfit q = inl ((λ z. omega (arith, z)), turn-searched h early ∙ rw q)
-          go (fit f) q = inr (refl, committed-found h early f q)
+          go (fit f) q = inr (refl, received-is h early f q)
 
       -- a timeout, where no message fits: it is refused, or the process moves to the target of the `after`
-      late-missed : (h : e .receives ≡ true) → t .expires ≡ true → search (clausesOf n P) 0 M ≡ none → (s : ℕ) → top ≤ s →
-          Verdict (timeoutRefusal unfit (P .place) (O .small) L (behindOp n P)) (moved P (behindOp n P .target)) s
+      late-missed : (h : e .receives ≡ true) → t .expires ≡ true → search (clausesOf n P) 0 M ≡ none → Verdict (timeoutRefusal unfit (P .place) (O .small) L (behindOp n P)) (moved P (behindOp n P .target))
       unfolding timeoutRefusal pairHasRoom numberFree
-      late-missed h late missed s above = go (ltb (P .place + 1 + O .small) L) refl (eqb (behindOp n P .number) afterOp) refl
+      late-missed h late missed = go (ltb (P .place + 1 + O .small) L) refl (eqb (behindOp n P .number) afterOp) refl
         where
           none-there : (ltb (P .place + 1 + O .small) L && eqb (behindOp n P .number) afterOp) ≡ false → rule n a ≡ refused noTimeout
           none-there q = late-refused h late none missed (rw (after-read h, q))
 
-          go : (b : Bool) → ltb (P .place + 1 + O .small) L ≡ b → (c : Bool) → eqb (behindOp n P .number) afterOp ≡ c → Verdict (cond (b && c) 0 noTimeout) (moved P (behindOp n P .target)) s
+          go : (b : Bool) → ltb (P .place + 1 + O .small) L ≡ b → (c : Bool) → eqb (behindOp n P .number) afterOp ≡ c → Verdict (cond (b && c) 0 noTimeout) (moved P (behindOp n P .target))
           go false l c f = inl ((λ z. omega (arith, z)), none-there (rw l))
           go true l false f = inl ((λ z. omega (arith, z)), none-there (rw (l, f)))
           go true l true f =
@@ -789,14 +794,14 @@ module _ (n : Node) (sound : Sound n) {a : Action} (t : Decoded) (m : Means a t)
                   effect = effect;
                   answer = rule-done n a (cleared-ready .numbers) (cleared-ready .awake) (cleared-ready .waits) effect decided refl refl;
                   process = refl;
-                  mail = mail-same (only .1) s above;
+                  mail = mail-same (only .1);
                   sent = rw (only .2);
                   born = rw (only .3);
                 },
               )
 
       -- a timeout: 28 where a message fits
-      late-searched : (h : e .receives ≡ true) → t .expires ≡ true → Verdict (timeoutRefusal S (P .place) (O .small) L (behindOp n P)) (moved P (behindOp n P .target)) top
+      late-searched : (h : e .receives ≡ true) → t .expires ≡ true → Verdict (timeoutRefusal S (P .place) (O .small) L (behindOp n P)) (moved P (behindOp n P .target))
       unfolding timeoutRefusal
       late-searched h late = go (search (clausesOf n P) 0 M) refl
         where
@@ -809,8 +814,8 @@ module _ (n : Node) (sound : Sound n) {a : Action} (t : Decoded) (m : Means a t)
           unfit-as [] = refl
           unfit-as (m ∷ ms) = refl
 
-          go : (f : Option Fit) → search (clausesOf n P) 0 M ≡ f → Verdict (timeoutRefusal (answered f M) (P .place) (O .small) L (behindOp n P)) (moved P (behindOp n P .target)) top
-          go none q = subst (λ (k : ℕ). Verdict k (moved P (behindOp n P .target)) top) (unfit-as M) (late-missed h late q top (omega arith))
+          go : (f : Option Fit) → search (clausesOf n P) 0 M ≡ f → Verdict (timeoutRefusal (answered f M) (P .place) (O .small) L (behindOp n P)) (moved P (behindOp n P .target))
+          go none q = subst (λ (k : ℕ). Verdict k (moved P (behindOp n P .target))) (unfit-as M) (late-missed h late q)
           go (some f) q = inl ((λ z. omega (arith, z)), late-refused h late (some f) q (either (atAfter codeHere (P .place))))
 
       -- who searches is live, and has at most 16 messages
@@ -856,9 +861,6 @@ module _ (n : Node) (sound : Sound n) {a : Action} (t : Decoded) (m : Means a t)
 
       -- ---- the node
 
-      ok : t .bad ≡ false
-      ok = m .bad ∙ rw (cleared-ready .numbers)
-
       -- a signal leaves one row and one joins another, or the same, in any order
       leaves-joins : (r : ℕ) → r < 256 → 0 < getD (n .counts) r 0 → changed 4 (popped noSignal) r (withSending (flightShelf n) (owner a) (sentOf e))
           ≡ withSending (changed 4 (popped noSignal) r (flightShelf n)) (owner a) (sentOf e)
@@ -893,36 +895,30 @@ module _ (n : Node) (sound : Sound n) {a : Action} (t : Decoded) (m : Means a t)
       birth : e .spawns ≡ true → bornOf i e ≡ some (record { number = e .number .0; process = fresh (e .behaviour) (pid i) })
       birth h = rw h
 
-      module _ {next : Process} {k : ℕ} (w : Committed next k) where
+      module _ {next : Process} (w : Committed next) where
         processes-stored : e .spawns ≡ false → set (n .processes) (t .at) next ≡ withBirth (set (n .processes) (owner a - 1) (w .effect .process)) (w .effect .born)
         processes-stored h = rw (w .born ∙ no-birth h, w .process, owner-at)
 
-        mail-stored : e .spawns ≡ false → storedMail k ≡ withoutMail (withMail (mailShelf n) (owner a - 1) (w .effect .mail)) (w .effect .born)
+        mail-stored : e .spawns ≡ false → storedMail ≡ withoutMail (withMail (mailShelf n) (owner a - 1) (w .effect .mail)) (w .effect .born)
         mail-stored h = sym (ap (withoutMail (withMail (mailShelf n) (owner a - 1) (w .effect .mail))) (w .born ∙ no-birth h) ∙ w .mail)
 
         flight-stored : t .arrives ≡ false → storedFlight ≡ withSending (withArrival (flightShelf n) a) (owner a) (w .effect .sent)
         flight-stored arr =
-            let action : a ≡ cond (t .expires) (timeout i) (run i) = m .action ok ∙ rw arr in
-            let kept = ap (withArrival (flightShelf n)) action ∙ no-arrival (t .expires) in
-            sym (ap (λ (s : Shelf Cell). withSending s (owner a) (w .effect .sent)) kept ∙ ap (withSending (flightShelf n) (owner a)) (w .sent) ∙ sent-stored)
-          where
-            no-arrival : (b : Bool) → withArrival (flightShelf n) (cond b (timeout i) (run i)) ≡ flightShelf n
-            no-arrival true = refl
-            no-arrival false = refl
+            sym (ap (λ (s : Shelf Cell). withSending s (owner a) (w .effect .sent)) (no-arrival arr) ∙ ap (withSending (flightShelf n) (owner a)) (w .sent) ∙ sent-stored)
 
-        pub stored-run : t .arrives ≡ false → e .spawns ≡ false → made n (set (n .processes) (t .at) next) (storedMail k) storedFlight ≡ commit n a (w .effect)
+        pub stored-run : t .arrives ≡ false → e .spawns ≡ false → made n (set (n .processes) (t .at) next) storedMail storedFlight ≡ commit n a (w .effect)
         unfolding commit
         stored-run arr h = λ x. made n (processes-stored h x) (mail-stored h x) (flight-stored arr x)
 
         pub stored-birth : e .spawns ≡ true → made n (set (set (n .processes) (t .at) next) Z (fresh (e .behaviour) (pid i)))
-            (record { cells = storedMail k .cells; counts = set (storedMail k .counts) Z 0 }) storedFlight ≡ commit n a (w .effect)
+            (record { cells = storedMail .cells; counts = set (storedMail .counts) Z 0 }) storedFlight ≡ commit n a (w .effect)
         unfolding commit
         stored-birth h =
             let here : Z ≡ e .number .0 - 1 = process-at (clear .refusal) (quiet-spawns (clear .refusal) h) h in
             let processes : set (set (n .processes) (t .at) next) Z (fresh (e .behaviour) (pid i)) ≡ withBirth (set (n .processes) (owner a - 1) (w .effect .process)) (w .effect .born) = rw
             (w .born ∙ birth h, w .process, owner-at, here) in
-            let mail : record { cells = storedMail k .cells; counts = set (storedMail k .counts) Z 0 } ≡ withoutMail (withMail (mailShelf n) (owner a - 1) (w .effect .mail)) (w .effect .born) =
-            sym (store-emptied noMessage 16 Z (storedMail k)) ∙ ap (λ (j : ℕ). changed 16 emptied j (storedMail k)) here
+            let mail : record { cells = storedMail .cells; counts = set (storedMail .counts) Z 0 } ≡ withoutMail (withMail (mailShelf n) (owner a - 1) (w .effect .mail)) (w .effect .born) =
+            sym (store-emptied noMessage 16 Z storedMail) ∙ ap (λ (j : ℕ). changed 16 emptied j storedMail) here
             ∙ sym (ap (withoutMail (withMail (mailShelf n) (owner a - 1) (w .effect .mail))) (w .born ∙ birth h) ∙ ap (changed 16 emptied (e .number .0 - 1)) (w .mail)) in
             λ x. made n (processes x) (mail x) (flight-stored (cleared-ready .births h) x)
 
@@ -933,7 +929,7 @@ module _ (n : Node) (sound : Sound n) {a : Action} (t : Decoded) (m : Means a t)
           counts = set (storedFlight .counts) (t .row) (getD (storedFlight .counts) (t .row) 0 - 1);
         }
 
-        pub stored-arrival : t .row < 256 → t .arrives ≡ true → e .spawns ≡ false → made n (set (n .processes) (t .at) next) (storedMail k)
+        pub stored-arrival : t .row < 256 → t .arrives ≡ true → e .spawns ≡ false → made n (set (n .processes) (t .at) next) storedMail
             poppedFlight ≡ commit n a (w .effect)
         unfolding commit signalWaits
         stored-arrival bound arr h =
@@ -993,16 +989,48 @@ module _ (n : Node) (sound : Sound n) {a : Action} (t : Decoded) (m : Means a t)
         rw read at (message-turn M (clausesOf n P) j (noMessage .message) (rw mail-size (b .0)) v)
 
     -- its clauses stand behind the op
-    clauses-at : (s : ℕ) → 16 * t .at ≤ s → s < top → Clauses n P
-    clauses-at s h g = let q = looked s h g in clauses (turn-searching q) q
+    clauses-at : e .receives ≡ true → Clauses n P
+    clauses-at q = clauses (turn-searching q) q
 
-    clause-read : (s c : ℕ) → 16 * t .at ≤ s → s < top → placeAt n P + 1 ≤ c → c < min (placeAt n P + 1 + O .small) 256 → (c - (placeAt n P + 1) < length (clausesOf n P))
+    clause-read : e .receives ≡ true → (c : ℕ) → placeAt n P + 1 ≤ c → c < min (placeAt n P + 1 + O .small) 256 → (c - (placeAt n P + 1) < length (clausesOf n P))
         × (getD (n .ops) c noOp ≡ getD (clausesOf n P) (c - (placeAt n P + 1)) noOp)
-    clause-read s c h g l u =
-        let w = clauses-at s h g in
+    clause-read q c l u =
+        let w = clauses-at q in
         let inside = clause-inside (placeAt n P) c (O .small) l u in
         let here : c - (placeAt n P + 1) < length (clausesOf n P) = rw (w .size) (inside .0) in
         (here, ap (λ (j : ℕ). getD (n .ops) j noOp) (sym (inside .1)) ∙ w .read (c - (placeAt n P + 1)) here)
+
+    -- all of them were looked at
+    clause-past : e .receives ≡ true → (c : ℕ) → min (placeAt n P + 1 + O .small) 256 ≤ c → length (clausesOf n P) ≤ c - (placeAt n P + 1)
+    clause-past q c high = let w = clauses-at q in rw (w .size) (clause-beyond (placeAt n P) c (O .small) (w .within) high)
+
+    -- ---- the kinds are noted: the clauses from the k-th on are left
+
+    abbrev pub AtNoting : Kinds → ℕ → Type 0
+    AtNoting ks k = notedAll noKinds (clausesOf n P) ≡ notedAll ks (drop k (clausesOf n P))
+
+    -- the kinds that its clauses can take
+    abbrev pub kindsHere : Kinds
+    kindsHere = widened (notedAll noKinds (clausesOf n P))
+
+    module _ (q : e .receives ≡ true) (ks : Kinds) (c : ℕ) where
+      pub noted-more : placeAt n P + 1 ≤ c → c < min (placeAt n P + 1 + O .small) 256 → AtNoting ks (c - (placeAt n P + 1))
+          → AtNoting (noted ks (getD (n .ops) c noOp)) (c + 1 - (placeAt n P + 1))
+      noted-more low high v =
+          let r = clause-read q c low high in
+          rw (r .1, ← next-clause (placeAt n P) c low) (noting-turn (clausesOf n P) ks (c - (placeAt n P + 1)) (r .0) v)
+
+      pub noted-over : min (placeAt n P + 1 + O .small) 256 ≤ c → AtNoting ks (c - (placeAt n P + 1)) → widened ks ≡ kindsHere
+      noted-over high v = sym (ap widened (noting-end (clausesOf n P) ks (c - (placeAt n P + 1)) (clause-past q c high) v))
+
+    -- ---- the turns of the search
+
+    module _ (s : ℕ) (from : 16 * t .at ≤ s) where
+      -- a message that no clause can take is left out
+      pub left-aside : (x : Message) → takes kindsHere x ≡ false → AtClause (s - 16 * t .at) 0 x → AtMessage (s + 1 - 16 * t .at)
+      left-aside x h v =
+          let k = s - 16 * t .at in
+          rw (next-slot (16 * t .at) s from) at (v ∙ left-out (clausesOf n P) x h k (search (clausesOf n P) (k + 1) (drop (k + 1) M)))
 
     module _ (s c : ℕ) (from : 16 * t .at ≤ s) (below : s < top) (low : placeAt n P + 1 ≤ c) where
       abbrev msg : Message
@@ -1014,24 +1042,23 @@ module _ (n : Node) (sound : Sound n) {a : Action} (t : Decoded) (m : Means a t)
       module _ (high : c < min (placeAt n P + 1 + O .small) 256) where
         fit-here : fits (getD (n .ops) c noOp) msg ≡ true → AtClause (s - 16 * t .at) (c - (placeAt n P + 1)) msg
             → firstFit ≡ some (record { index = s - 16 * t .at; message = msg; clause = getD (clausesOf n P) (c - (placeAt n P + 1)) noOp })
-        fit-here f v = let r = clause-read s c from below low high in clause-hit (clausesOf n P) (s - 16 * t .at) (c - (placeAt n P + 1)) msg later (r .0) (rw (r .1) at f) v
+        fit-here f v = let r = clause-read (looked s from below) c low high in clause-hit (clausesOf n P) (s - 16 * t .at) (c - (placeAt n P + 1)) msg later (r .0) (rw (r .1) at f) v
 
         pub search-hit : fits (getD (n .ops) c noOp) msg ≡ true → AtClause (s - 16 * t .at) (c - (placeAt n P + 1)) msg
             → S ≡ fit (record { index = s - 16 * t .at; message = msg; clause = getD (n .ops) c noOp })
         search-hit f v =
-            let r = clause-read s c from below low high in
+            let r = clause-read (looked s from below) c low high in
             answered-fit M (fit-here f v) ∙ ap (λ (o : Op). fit (record { index = s - 16 * t .at; message = msg; clause = o })) (sym (r .1))
 
         pub missed : fits (getD (n .ops) c noOp) msg ≡ false → AtClause (s - 16 * t .at) (c - (placeAt n P + 1)) msg → AtClause (s - 16 * t .at) (c + 1 - (placeAt n P + 1)) msg
         missed f v =
-            let r = clause-read s c from below low high in
+            let r = clause-read (looked s from below) c low high in
             let e : c - (placeAt n P + 1) + 1 ≡ c + 1 - (placeAt n P + 1) = next-clause (placeAt n P) c low in
             rw e at (clause-miss (clausesOf n P) (s - 16 * t .at) (c - (placeAt n P + 1)) msg later (r .0) (rw (r .1) at f) v)
 
       pub passed : min (placeAt n P + 1 + O .small) 256 ≤ c → AtClause (s - 16 * t .at) (c - (placeAt n P + 1)) msg → AtMessage (s + 1 - 16 * t .at)
       passed high v =
-          let w = clauses-at s from below in
-          let all : length (clausesOf n P) ≤ c - (placeAt n P + 1) = rw (w .size) (clause-beyond (placeAt n P) c (O .small) (w .within) high) in
+          let all = clause-past (looked s from below) c high in
           let e : s - 16 * t .at + 1 ≡ s + 1 - 16 * t .at = next-slot (16 * t .at) s from in
           rw e at (clause-end (clausesOf n P) (s - 16 * t .at) (c - (placeAt n P + 1)) msg later all v)
 
@@ -1045,16 +1072,16 @@ module _ (n : Node) (sound : Sound n) {a : Action} (t : Decoded) (m : Means a t)
         answered-none M (message-end M (clausesOf n P) (s - 16 * t .at) (noMessage .message) (omega (arith, all)) v) ∙ ap soFar all
 
     -- the search is over: what a run and a timeout do
-    pub run-searched : e .receives ≡ true → t .expires ≡ false → Verdict (searchNumber S) (afterSearch P S) (16 * t .at + fitIndex (min W 16) S)
+    pub run-searched : e .receives ≡ true → t .expires ≡ false → ((searchNumber S ≡ 0 → ⊥) × (rule n a ≡ refused (searchNumber S))) ⊎ ((searchNumber S ≡ 0) × (rule n a ≡ done (received S)))
     run-searched q early = early-searched (turn-searching q) q early
 
-    pub timeout-searched : e .receives ≡ true → t .expires ≡ true → Verdict (timeoutRefusal S (P .place) (O .small) L (behindOp n P)) (moved P (behindOp n P .target)) top
+    pub timeout-searched : e .receives ≡ true → t .expires ≡ true → Verdict (timeoutRefusal S (P .place) (O .small) L (behindOp n P)) (moved P (behindOp n P .target))
     timeout-searched q late = late-searched (turn-searching q) q late
 
     -- nothing was looked for
-    pub unsought : e .receives ≡ false → (k : ℕ) → Judges k → Verdict k (e .process) (16 * t .at)
+    pub unsought : e .receives ≡ false → (k : ℕ) → Judges k → Verdict k (e .process)
     unsought q k g = go (ℕ-discrete k 0)
       where
-        go : Dec (k ≡ 0) → Verdict k (e .process) (16 * t .at)
+        go : Dec (k ≡ 0) → Verdict k (e .process)
         go (no z) = inl (z, turn-refused q k g z)
         go (yes z) = inr (z, committed-quiet (turn-cleared q k g z) q)
