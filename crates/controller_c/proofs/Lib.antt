@@ -1,2 +1,4 @@
 pub mod Answers
+pub mod Reaches
 pub mod Offers
+pub mod Counts

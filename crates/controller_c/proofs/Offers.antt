@@ -1,19 +1,18 @@
--- What is told of a suggestion on two texts, by what is refused; and what that number says. Assumes nothing.
---   plan-refused steps-refused first-offered   what is told: one of the texts is refused, and none is
---   offer-made                                 of accepted texts 0 is told where no step would be accepted, else the number of the first step that would
---                                              be, which is neither 0 nor the largest: a caller can tell the three apart
-use mathlib.Core.Bool.{So, false, false≢true}
+-- What is told of a suggestion on two texts, and what that number says. Assumes nothing.
+--   offer-refused offer-reached   what is told: one of the texts is refused, and none is
+--   offer-made   of accepted texts 0 is told where no step would be accepted, else the number of the first step that would be, which is neither 0 nor
+--                the largest: a caller can tell the three apart
+use mathlib.Core.Bool.{So, true, false, false≢true}
 use mathlib.Core.List.{List}
 use mathlib.Core.Logic.{_⊎_, inl, inr}
 use mathlib.Core.Option.{Option, none, some}
 use mathlib.Core.Path.{_≡_, refl, sym, ap, subst, _∙_}
 use Prim.Native.Nat.{ℕ, _<_}
 use native.Mathlib.Omega.{arith}
-use borrow.Author.Tests.{eq-eqb, ne-eqb}
+use borrow.Author.Tests.{eq-eqb}
 use Rattle.actions.specs.Numbers.{encode}
 use Rattle.controller.specs.Program.{steps}
-use Rattle.engine.specs.declared.Played.{Played}
-use Rattle.engine.specs.Answers.{playedOf, recorded}
+use Rattle.engine.specs.Answers.{recorded}
 use Rattle.node.specs.declared.Node.{Node}
 use Rattle.node.specs.declared.Step.{Step}
 use Rattle.node.specs.Values.{isNumber}
@@ -23,7 +22,7 @@ use Rattle.plan.proofs.Sound.{loaded-sound}
 use Rattle.rules.specs.Answers.{Answer, refused, done}
 use Rattle.rules.specs.Guarantees.{IsFirst}
 use Rattle.rules.specs.Nodes.{Sound}
-use Rattle.rules.specs.Steps.{Action, run, arrive, timeout, Outcome, recordOf, numbered, play}
+use Rattle.rules.specs.Steps.{Action, run, arrive, timeout, recordOf, numbered, play}
 use Rattle.rules.specs.Suggest.{acceptable, suggest, Suggests}
 use Rattle.rules.proofs.All.{parts}
 use Rattle.rules.proofs.Commits.{play-sound}
@@ -32,24 +31,18 @@ use Rattle.rules.proofs.Suggest.{acceptable-needs, suggests, none-on-offer, fir
 use Rattle.schedule.specs.declared.Schedule.{Schedule}
 use Rattle.schedule.specs.Reading.{scheduleOf}
 use Rattle.text.specs.Writing.{top}
-use Rattle.controller_c.specs.Exported.{exportedOffer, offered}
+use Rattle.controller_c.specs.declared.Reached.{Reached}
+use Rattle.controller_c.specs.Exported.{reachedOf, reachedBy, exportedOffer, offered}
+use Rattle.controller_c.proofs.Reaches.{reached-refused, reached-told}
 
-module _ (x : Loaded) (s : Schedule) {p : Loaded} (loaded : p ≡ x) where
-  pub plan-refused : (p .number ≡ 0 → ⊥) → top ≡ offered x s
+module _ (x : Loaded) (s : Schedule) (r : Reached) (is : reachedOf r ≡ reachedBy x s) where
+  pub offer-refused : r .refused ≡ true → top ≡ offered x s
   unfolding offered
-  plan-refused h = rw (← loaded, ne-eqb (p .number) 0 h)
+  offer-refused h = reached-refused (λ m. exportedOffer (recorded (suggest m))) r is h
 
-  module _ (good : p .number ≡ 0) {q : Schedule} (read : q ≡ s) where
-    pub steps-refused : (q .number ≡ 0 → ⊥) → top ≡ offered x s
-    unfolding offered
-    steps-refused h = rw (← loaded, ← read, eq-eqb (p .number) 0 good, ne-eqb (q .number) 0 h)
-
-    pub first-offered : {r : Played} {a : Answer (Option Step)} {k : ℕ} → q .number ≡ 0 → playedOf r ≡ play (p .node) (steps q) → a ≡ recorded (suggest (r .node)) → k ≡ exportedOffer a
-        → k ≡ offered x s
-    unfolding offered
-    first-offered h e f g =
-        let there = ap (λ (o : Outcome). o .node) e in
-        rw (← loaded, ← read, eq-eqb (p .number) 0 good, eq-eqb (q .number) 0 h) (g ∙ ap exportedOffer (f ∙ ap (λ (n : Node). recorded (suggest n)) there))
+  pub offer-reached : r .refused ≡ false → {a : Answer (Option Step)} {k : ℕ} → a ≡ recorded (suggest (r .node)) → k ≡ exportedOffer a → k ≡ offered x s
+  unfolding offered
+  offer-reached h e f = reached-told (λ m. exportedOffer (recorded (suggest m))) r is h (f ∙ ap exportedOffer e)
 
 -- ---- what the number says
 
@@ -81,5 +74,5 @@ module _ (n : Node) where
           inr (a, refl, apart .0, apart .1, first)
 
 pub offer-made : (p q : List ℕ) → loadOf p .number ≡ 0 → scheduleOf q .number ≡ 0 → Says (play (loadOf p .node) (steps (scheduleOf q)) .node) (offered (loadOf p) (scheduleOf q))
-unfolding offered
+unfolding offered reachedBy
 offer-made p q h g = rw (eq-eqb (loadOf p .number) 0 h, eq-eqb (scheduleOf q .number) 0 g) (says _ (play-sound (loadOf p .node) (steps (scheduleOf q)) (loaded-sound p)))

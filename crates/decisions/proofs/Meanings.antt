@@ -288,7 +288,7 @@ pub record Awaiting (p : Process) (len : ℕ) (o : Op) : Type 0 where
   pub inside : p .place < len
   pub recv : o .number ≡ recvOp
 
-awaiting : (p : Process) (len : ℕ) (o : Op) → awaits p len o ≡ true → Awaiting p len o
+pub awaiting : (p : Process) (len : ℕ) (o : Op) → awaits p len o ≡ true → Awaiting p len o
 unfolding awaits
 awaiting p len o h = go (p .stage) refl (ltb (p .place) len) refl (eqb (o .number) recvOp) refl h
   where

@@ -1,37 +1,14 @@
--- `open_controller_suggest` loads, reads and plays, then asks. Assumes nothing.
+-- `open_controller_suggest` tells the suggestion on the node that is reached. Assumes nothing.
 use borrow.Author.Needs.{needs}
-use Rattle.controller.proofs.Room.{count-room, count-taken}
-use Rattle.controller_c.proofs.Offers.{plan-refused, steps-refused, first-offered}
+use Rattle.controller_c.proofs.Offers.{offer-refused, offer-reached}
 use Rattle.controller_c.proofs.open_controller_suggest.Statement.{statement}
 use Rattle.controller_c.proofs.open_controller_suggest.Tie as tie
 
-load-requires : tie.Need-load-requires
-load-requires c κs = search needs
+reach-requires : tie.Need-reach-requires
+reach-requires c κs = search needs
 
 returns : tie.Need-returns
-returns c = plan-refused _ _ (c .before .before .load .ensures) (c .if1 .taken)
-
-read-requires : tie.Need-read-requires
-read-requires c κs = search needs
-
-returns-2 : tie.Need-returns-2
-returns-2 c =
-    let read = c .before .before in
-    let test = read .before in
-    steps-refused _ _ (test .before .before .load .ensures) (test .if1 .left) (read .read .ensures) (c .if2 .taken)
-
-array-share-prefix-numbers : tie.Need-array-share-prefix-numbers
-array-share-prefix-numbers c =
-    let read = c .before .before .before .before in
-    count-room (read .before .before .before .before .before .before .args .steps .now) (read .read .ensures)
-
-slice-aggregate-play : tie.Need-slice-aggregate-play
-slice-aggregate-play c =
-    let read = c .before .before .before .before .before in
-    count-taken (read .before .before .before .before .before .before .args .steps .now) (read .read .ensures)
-
-play-requires : tie.Need-play-requires
-play-requires c κs = search needs
+returns c = offer-refused _ _ _ (c .before .reach .ensures) (c .if1 .taken)
 
 suggest-requires : tie.Need-suggest-requires
 suggest-requires c κs = search needs
@@ -39,26 +16,12 @@ suggest-requires c κs = search needs
 offer-number-requires : tie.Need-offer-number-requires
 offer-number-requires c κs = search needs
 
-returns-3 : tie.Need-returns-3
-returns-3 c =
+returns-2 : tie.Need-returns-2
+returns-2 c =
     let asked = c .before in
-    let played = asked .before in
-    let test2 = played .before .before .before .before in
-    let read = test2 .before .before in
-    let test = read .before in
-    first-offered _ _ (test .before .before .load .ensures) (test .if1 .left) (read .read .ensures) (test2 .if2 .left) (played .play .ensures) (asked .suggest .ensures) (c .offer-number .ensures)
+    let test = asked .before in
+    offer-reached _ _ _ (test .before .reach .ensures) (test .if1 .left) (asked .suggest .ensures) (c .offer-number .ensures)
 
 pub open-controller-suggest-spec : {M : Type 1} → statement M
 open-controller-suggest-spec =
-    tie.close
-    (tie.spec
-    load-requires
-    returns
-    read-requires
-    returns-2
-    array-share-prefix-numbers
-    slice-aggregate-play
-    play-requires
-    suggest-requires
-    offer-number-requires
-    returns-3)
+    tie.close (tie.spec reach-requires returns suggest-requires offer-number-requires returns-2)

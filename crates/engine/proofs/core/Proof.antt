@@ -210,17 +210,34 @@ module _ (c : Turn) where
 -- ---- the mailbox is searched
 
 -- the slots that are searched stand in the array
-top-bound : (c : tie.After-up-to Inv-loop2 μ-loop2 Inv-loop3 μ-loop3 Inv-messages μ-messages Inv-loop4 μ-loop4 Inv-loop5 μ-loop5 Inv-loop μ-loop) → 16 * T (c .before .before) .at + c .up-to .result ≤ 256
+top-bound : (c : tie.After-up-to Inv-loop2 μ-loop2 Inv-loop3 μ-loop3 Inv-messages μ-messages Inv-loop4 μ-loop4 Inv-loop5 μ-loop5 Inv-loop μ-loop) → 16 * T (c .before .before) .at +
+    c .up-to .result ≤ 256
 top-bound c = let h = at-bound (c .before .before) in let e = c .up-to .ensures in omega (arith, h, e)
 
+-- where they end, and where the clauses do
+last-at : (c : tie.After-up-to Inv-loop2 μ-loop2 Inv-loop3 μ-loop3 Inv-messages μ-messages Inv-loop4 μ-loop4 Inv-loop5 μ-loop5 Inv-loop μ-loop) → 16 * T (c .before .before) .at +
+    c .up-to .result ≡ lastSlot (c .before .before)
+last-at c = last-is (c .before .before) (c .before .if1 .taken) (c .up-to .result) (c .up-to .ensures)
+
+abbrev Bounded : Type 0
+Bounded = tie.After-clauses-end Inv-loop2 μ-loop2 Inv-loop3 μ-loop3 Inv-messages μ-messages Inv-loop4 μ-loop4 Inv-loop5 μ-loop5 Inv-loop μ-loop
+
+end-at : (c : Bounded) → let t = c .before .before .before in c .clauses-end .result ≡ min (behindRecv t + clauses t) 256
+end-at c = end-is (c .before .before .before) (c .clauses-end .result) (c .clauses-end .ensures)
+
+end-bound : (c : Bounded) → c .clauses-end .result ≤ 256
+end-bound c = let e = c .clauses-end .ensures in omega (arith, e)
+
 -- all clauses are noted
-kinds-are : (c : tie.After-widened Inv-loop2 μ-loop2 Inv-loop3 μ-loop3 Inv-messages μ-messages Inv-loop4 μ-loop4 Inv-loop5 μ-loop5 Inv-loop μ-loop) → let t = (c .before .before .before .before .before .before .before) in
+kinds-are : (c : tie.After-widened Inv-loop2 μ-loop2 Inv-loop3 μ-loop3 Inv-messages μ-messages Inv-loop4 μ-loop4 Inv-loop5 μ-loop5 Inv-loop μ-loop) → let t =
+    (c .before .before .before .before .before .before .before) in
     c .widened .result ≡ kindsHere (N t) (N-sound t) (T t) (T-means t) (E t) (E-says t)
 kinds-are c =
     let t = (c .before .before .before .before .before .before .before) in
     let v = (c .before .before) .loop2 .inv in
-    let high = subst (λ (k : ℕ). k ≤ (c .before .before) .loop2 .d) (end-is t ((c .before .before .before .before) .clauses-end .result) ((c .before .before .before .before) .clauses-end .ensures)) ((c .before) .loop2-test .left) in
-    c .widened .ensures ∙ noted-over (N t) (N-sound t) (T t) (T-means t) (E t) (E-says t) ((c .before .before .before .before .before .before) .if1 .taken) ((c .before .before) .loop2 .noted) ((c .before .before) .loop2 .d) high (v .1)
+    let high = subst (λ (k : ℕ). k ≤ (c .before .before) .loop2 .d) (end-at (c .before .before .before .before)) ((c .before) .loop2-test .left) in
+    c .widened .ensures ∙ noted-over (N t) (N-sound t) (T t) (T-means t) (E t) (E-says t) ((c .before .before .before .before .before .before) .if1 .taken) ((c .before .before) .loop2 .noted)
+    ((c .before .before) .loop2 .d) high (v .1)
 
 -- a message is looked at
 module _ (c : tie.In-messages Inv-loop2 μ-loop2 Inv-loop3 μ-loop3 Inv-messages μ-messages Inv-loop4 μ-loop4 Inv-loop5 μ-loop5 Inv-loop μ-loop) where
@@ -229,7 +246,7 @@ module _ (c : tie.In-messages Inv-loop2 μ-loop2 Inv-loop3 μ-loop3 Inv-messages
 
   message-below : c .before .messages .slot < lastSlot looking
   message-below =
-      subst (λ (k : ℕ). c .before .messages .slot < k) (last-is looking ((c .before .before .before .before .before .before .before .before) .if1 .taken) ((c .before .before .before .before .before .before .before) .up-to .result) ((c .before .before .before .before .before .before .before) .up-to .ensures)) (c .messages-test .taken)
+      subst (λ (k : ℕ). c .before .messages .slot < k) (last-at (c .before .before .before .before .before .before .before)) (c .messages-test .taken)
 
   at-message : searchFor (clausesOf (N looking) (P (N looking) (N-sound looking) (T looking) (T-means looking))) 0 (mailOf (N looking) (T looking .at))
       ≡ firstClause (drop 0 (clausesOf (N looking) (P (N looking) (N-sound looking) (T looking) (T-means looking)))) (c .before .messages .slot - 16 * T looking .at)
@@ -266,9 +283,8 @@ module _ (c : Left) where
       let t = left-by in
       let v = c .before .messages .inv in
       let up = (c .before .before .before .before .before .before .before) .up-to in
-      let end = (c .before .before .before .before .before .before) .clauses-end in
       let sought = (c .before .before .before .before .before .before .before .before) .if1 .taken in
-      let last = last-is t sought (up .result) (up .ensures) in
+      let last = last-at (c .before .before .before .before .before .before .before) in
       ⊎-elim
       (λ w.
       let above = subst (λ (x : ℕ). x ≤ stopped) last (w .0 .left) in
@@ -281,7 +297,7 @@ module _ (c : Left) where
       })
       (λ w.
       let below = subst (λ (x : ℕ). stopped < x) last (w .0 .taken) in
-      let high = subst (λ (x : ℕ). w .4 .c < x) (end-is t (end .result) (end .ensures)) (w .5 .taken) in
+      let high = subst (λ (x : ℕ). w .4 .c < x) (end-at (c .before .before .before .before .before .before)) (w .5 .taken) in
       let fits = sym (w .7 .ensures) ∙ w .8 .taken in
       let inside : stopped - 16 * T t .at ≤ min (waits t) 16 = let h = w .0 .taken in let e = up .ensures in omega (arith, h, e) in
       record {
@@ -299,12 +315,16 @@ module _ (c : Left) where
       omega (arith, a, index, h)
 
 -- a message fits, and the step is a run: it is accepted
-takes-one : (c : tie.Then5 Inv-loop2 μ-loop2 Inv-loop3 μ-loop3 Inv-messages μ-messages Inv-loop4 μ-loop4 Inv-loop5 μ-loop5 Inv-loop μ-loop) → let t = (c .before .before .before .before .before .before .before .before .before .before .before .before) in
+takes-one : (c : tie.Then5 Inv-loop2 μ-loop2 Inv-loop3 μ-loop3 Inv-messages μ-messages Inv-loop4 μ-loop4 Inv-loop5 μ-loop5 Inv-loop μ-loop) → let t =
+    (c .before .before .before .before .before .before .before .before .before .before .before .before) in
     rule (N t) (action t) ≡ done (received (N t) (N-sound t) (T t) (T-means t) (E t) (E-says t) (S (N t) (N-sound t) (T t) (T-means t)))
 takes-one c =
     let t = (c .before .before .before .before .before .before .before .before .before .before .before .before) in
-    let number : searchNumber (S (N t) (N-sound t) (T t) (T-means t)) ≡ 0 = sym (c .before .search-refusal .ensures ∙ ap searchNumber (answers (c .before .before .before) .is)) ∙ c .if5 .taken in
-    ⊎-elim (λ w. absurd (w .0 number)) (λ w. w .1) (run-searched (N t) (N-sound t) (T t) (T-means t) (E t) (E-says t) ((c .before .before .before .before .before .before .before .before .before .before .before) .if1 .taken) ((c .before .before) .if4 .left))
+    let number : searchNumber (S (N t) (N-sound t) (T t) (T-means t)) ≡ 0 = sym (c .before .search-refusal .ensures ∙ ap searchNumber (answers (c .before .before .before) .is)) ∙
+    c .if5 .taken in
+    ⊎-elim (λ w. absurd (w .0 number)) (λ w. w .1)
+    (run-searched (N t) (N-sound t) (T t) (T-means t) (E t) (E-says t) ((c .before .before .before .before .before .before .before .before .before .before .before) .if1 .taken)
+    ((c .before .before) .if4 .left))
 
 -- ---- the search is over, where there is one and no message leaves by it
 
@@ -337,7 +357,17 @@ module _ (c : Sought) where
       (λ w.
       let searched : Left = record {
         before = record {
-          before = record { before = record { before = record { before = record { before = record { before = record { before = record { before = t; if1 = w .0 }; up-to = w .1 }; clauses-end = w .2 }; none = w .3 }; loop2 = w .4 }; loop2-test = w .5 }; widened = w .6 };
+          before = record {
+            before = record {
+              before = record {
+                before = record { before = record { before = record { before = record { before = t; if1 = w .0 }; up-to = w .1 }; clauses-end = w .2 }; none = w .3 };
+                loop2 =
+                    w .4;
+              };
+              loop2-test = w .5;
+            };
+            widened = w .6;
+          };
           messages = w .7;
         };
         messages-test = w .8;
@@ -351,7 +381,17 @@ module _ (c : Sought) where
       (λ w.
       let searched : Left = record {
         before = record {
-          before = record { before = record { before = record { before = record { before = record { before = record { before = record { before = t; if1 = w .0 }; up-to = w .1 }; clauses-end = w .2 }; none = w .3 }; loop2 = w .4 }; loop2-test = w .5 }; widened = w .6 };
+          before = record {
+            before = record {
+              before = record {
+                before = record { before = record { before = record { before = record { before = t; if1 = w .0 }; up-to = w .1 }; clauses-end = w .2 }; none = w .3 };
+                loop2 =
+                    w .4;
+              };
+              loop2-test = w .5;
+            };
+            widened = w .6;
+          };
           messages = w .7;
         };
         messages-test = w .8;
@@ -369,7 +409,8 @@ module _ (c : Sought) where
 abbrev Paired : Type 0
 Paired = tie.Joined7 Inv-loop2 μ-loop2 Inv-loop3 μ-loop3 Inv-messages μ-messages Inv-loop4 μ-loop4 Inv-loop5 μ-loop5 Inv-loop μ-loop
 
-paired : (c : Paired) → c .if7 .refusal ≡ pairTold (N ((c .before .before))) (N-sound ((c .before .before))) (T ((c .before .before))) (T-means ((c .before .before))) (E ((c .before .before)))
+paired : (c : Paired) → c .if7 .refusal ≡ pairTold (N ((c .before .before))) (N-sound ((c .before .before))) (T ((c .before .before))) (T-means ((c .before .before)))
+    (E ((c .before .before)))
     (E-says ((c .before .before))) ((c .before) .if1 .refusal)
 paired c =
     let r = (c .before) .if1 .refusal in
@@ -397,7 +438,8 @@ module _ (c : Over) where
   judged-is =
       let r = (c .before) .if7 .refusal in
       let old = getD (N t .processes) (Z (N t) (N-sound t) (T t) (T-means t) (E t) (E-says t)) noProcess in
-      ⊎-elim (λ w. w .4 ∙ w .3 .ensures ∙ ap (λ (k : ℕ). birthRefusal r (getD (N t .processes) k noProcess)) (w .1 .ensures .0) ∙ sym (ap (λ (b : Bool). cond b (birthRefusal r old) r) (w .0 .taken)))
+      ⊎-elim (λ w. w .4 ∙ w .3 .ensures ∙ ap (λ (k : ℕ). birthRefusal r (getD (N t .processes) k noProcess)) (w .1 .ensures .0) ∙ sym
+      (ap (λ (b : Bool). cond b (birthRefusal r old) r) (w .0 .taken)))
       (λ w. w .1 ∙ sym (ap (λ (b : Bool). cond b (birthRefusal r old) r) (w .0 .left)))
       (c .if8 .came)
       ∙ ap (birthTold (N t) (N-sound t) (T t) (T-means t) (E t) (E-says t)) (paired ((c .before)))
@@ -582,16 +624,16 @@ loop2-holds c =
     (omega (arith, s), rw (c .none .ensures, e))
 
 mul-noted : tie.Need-mul-noted Inv-loop2 μ-loop2 Inv-loop3 μ-loop3 Inv-messages μ-messages Inv-loop4 μ-loop4 Inv-loop5 μ-loop5 Inv-loop μ-loop
-mul-noted c = small (let h = c .loop2-test .taken in let e = (c .before .before .before) .clauses-end .ensures in omega (arith, h, e))
+mul-noted c = small (let h = c .loop2-test .taken in let e = end-bound (c .before .before .before) in omega (arith, h, e))
 
 element-copy-out-noted : tie.Need-element-copy-out-noted Inv-loop2 μ-loop2 Inv-loop3 μ-loop3 Inv-messages μ-messages Inv-loop4 μ-loop4 Inv-loop5 μ-loop5 Inv-loop μ-loop
-element-copy-out-noted c = let h = c .loop2-test .taken in let e = (c .before .before .before) .clauses-end .ensures in omega (arith, h, e)
+element-copy-out-noted c = let h = c .loop2-test .taken in let e = end-bound (c .before .before .before) in omega (arith, h, e)
 
 noted-requires : tie.Need-noted-requires Inv-loop2 μ-loop2 Inv-loop3 μ-loop3 Inv-messages μ-messages Inv-loop4 μ-loop4 Inv-loop5 μ-loop5 Inv-loop μ-loop
 noted-requires c κs = tt
 
 add-d-2 : tie.Need-add-d-2 Inv-loop2 μ-loop2 Inv-loop3 μ-loop3 Inv-messages μ-messages Inv-loop4 μ-loop4 Inv-loop5 μ-loop5 Inv-loop μ-loop
-add-d-2 c = small (let h = (c .before .before) .loop2-test .taken in let e = (c .before .before .before .before .before) .clauses-end .ensures in omega (arith, h, e))
+add-d-2 c = small (let h = (c .before .before) .loop2-test .taken in let e = end-bound (c .before .before .before .before .before) in omega (arith, h, e))
 
 loop2-less : tie.Need-loop2-less Inv-loop2 μ-loop2 Inv-loop3 μ-loop3 Inv-messages μ-messages Inv-loop4 μ-loop4 Inv-loop5 μ-loop5 Inv-loop μ-loop
 loop2-less c = let h = (c .before .before) .loop2-test .taken in omega (arith, h)
@@ -601,8 +643,9 @@ loop2-again c =
     let t = (c .before .before .before .before .before .before .before .before) in
     let v = (c .before .before .before) .loop2 .inv in
     let low = v .0 in
-    let high = subst (λ (k : ℕ). (c .before .before .before) .loop2 .d < k) (end-is t ((c .before .before .before .before .before) .clauses-end .result) ((c .before .before .before .before .before) .clauses-end .ensures)) ((c .before .before) .loop2-test .taken) in
-    let next = noted-more (N t) (N-sound t) (T t) (T-means t) (E t) (E-says t) ((c .before .before .before .before .before .before .before) .if1 .taken) ((c .before .before .before) .loop2 .noted) ((c .before .before .before) .loop2 .d) low high (v .1) in
+    let high = subst (λ (k : ℕ). (c .before .before .before) .loop2 .d < k) (end-at (c .before .before .before .before .before)) ((c .before .before) .loop2-test .taken) in
+    let next = noted-more (N t) (N-sound t) (T t) (T-means t) (E t) (E-says t) ((c .before .before .before .before .before .before .before) .if1 .taken)
+    ((c .before .before .before) .loop2 .noted) ((c .before .before .before) .loop2 .d) low high (v .1) in
     (omega (arith, low), rw (c .noted .ensures) next)
 
 widened-requires : tie.Need-widened-requires Inv-loop2 μ-loop2 Inv-loop3 μ-loop3 Inv-messages μ-messages Inv-loop4 μ-loop4 Inv-loop5 μ-loop5 Inv-loop μ-loop
@@ -633,10 +676,11 @@ loop3-holds c =
     (omega (arith, s), refl, rw e (at-message (c .before .before .before)))
 
 mul-clause : tie.Need-mul-clause Inv-loop2 μ-loop2 Inv-loop3 μ-loop3 Inv-messages μ-messages Inv-loop4 μ-loop4 Inv-loop5 μ-loop5 Inv-loop μ-loop
-mul-clause c = small (let h = c .loop3-test .taken in let e = (c .before .before .before .before .before .before .before .before .before .before .before) .clauses-end .ensures in omega (arith, h, e))
+mul-clause c = small (let h = c .loop3-test .taken in let e = end-bound (c .before .before .before .before .before .before .before .before .before .before .before) in omega (arith, h, e))
 
 element-copy-out-clause : tie.Need-element-copy-out-clause Inv-loop2 μ-loop2 Inv-loop3 μ-loop3 Inv-messages μ-messages Inv-loop4 μ-loop4 Inv-loop5 μ-loop5 Inv-loop μ-loop
-element-copy-out-clause c = let h = c .loop3-test .taken in let e = (c .before .before .before .before .before .before .before .before .before .before .before) .clauses-end .ensures in omega (arith, h, e)
+element-copy-out-clause c = let h = c .loop3-test .taken in let e = end-bound (c .before .before .before .before .before .before .before .before .before .before .before) in omega
+    (arith, h, e)
 
 fits-requires : tie.Need-fits-requires Inv-loop2 μ-loop2 Inv-loop3 μ-loop3 Inv-messages μ-messages Inv-loop4 μ-loop4 Inv-loop5 μ-loop5 Inv-loop μ-loop
 fits-requires c κs = tt
@@ -645,7 +689,8 @@ sub-t93 : tie.Need-sub-t93 Inv-loop2 μ-loop2 Inv-loop3 μ-loop3 Inv-messages μ
 sub-t93 c = (c .before .before .before .before .before .before .before .before .before) .messages .inv .0
 
 add-c-2 : tie.Need-add-c-2 Inv-loop2 μ-loop2 Inv-loop3 μ-loop3 Inv-messages μ-messages Inv-loop4 μ-loop4 Inv-loop5 μ-loop5 Inv-loop μ-loop
-add-c-2 c = small (let h = (c .before .before .before) .loop3-test .taken in let e = (c .before .before .before .before .before .before .before .before .before .before .before .before .before .before) .clauses-end .ensures in omega (arith, h, e))
+add-c-2 c = small (let h = (c .before .before .before) .loop3-test .taken in let e = end-bound
+    (c .before .before .before .before .before .before .before .before .before .before .before .before .before .before) in omega (arith, h, e))
 
 loop3-less : tie.Need-loop3-less Inv-loop2 μ-loop2 Inv-loop3 μ-loop3 Inv-messages μ-messages Inv-loop4 μ-loop4 Inv-loop5 μ-loop5 Inv-loop μ-loop
 loop3-less c = let h = (c .before .before .before) .loop3-test .taken in omega (arith, h)
@@ -655,15 +700,19 @@ loop3-again c =
     let t = (c .before .before .before .before .before .before .before .before .before .before .before .before .before .before .before .before .before) in
     let v = (c .before .before .before .before) .loop3 .inv in
     let low = v .0 in
-    let high = subst (λ (k : ℕ). (c .before .before .before .before) .loop3 .c < k) (end-is t ((c .before .before .before .before .before .before .before .before .before .before .before .before .before .before) .clauses-end .result) ((c .before .before .before .before .before .before .before .before .before .before .before .before .before .before) .clauses-end .ensures)) ((c .before .before .before) .loop3-test .taken) in
+    let high = subst (λ (k : ℕ). (c .before .before .before .before) .loop3 .c < k)
+    (end-at (c .before .before .before .before .before .before .before .before .before .before .before .before .before .before)) ((c .before .before .before) .loop3-test .taken) in
     let f = sym ((c .before) .fits2 .ensures) ∙ c .if3 .left in (
       omega (arith, low),
       v .1,
-      missed (N t) (N-sound t) (T t) (T-means t) (E t) (E-says t) ((c .before .before .before .before .before .before .before .before .before) .messages .slot) ((c .before .before .before .before) .loop3 .c) ((c .before .before .before .before .before .before .before .before .before) .messages .inv .0) (message-below (c .before .before .before .before .before .before .before .before)) low high f (v .2),
+      missed (N t) (N-sound t) (T t) (T-means t) (E t) (E-says t) ((c .before .before .before .before .before .before .before .before .before) .messages .slot)
+          ((c .before .before .before .before) .loop3 .c) ((c .before .before .before .before .before .before .before .before .before) .messages .inv .0)
+          (message-below (c .before .before .before .before .before .before .before .before)) low high f (v .2),
     )
 
 add-slot : tie.Need-add-slot Inv-loop2 μ-loop2 Inv-loop3 μ-loop3 Inv-messages μ-messages Inv-loop4 μ-loop4 Inv-loop5 μ-loop5 Inv-loop μ-loop
-add-slot c = small (let h = (c .before .before .before) .messages-test .taken in let b = top-bound (c .before .before .before .before .before .before .before .before .before .before) in omega (arith, h, b))
+add-slot c = small (let h = (c .before .before .before) .messages-test .taken in let b = top-bound (c .before .before .before .before .before .before .before .before .before .before) in omega
+    (arith, h, b))
 
 messages-less : tie.Need-messages-less Inv-loop2 μ-loop2 Inv-loop3 μ-loop3 Inv-messages μ-messages Inv-loop4 μ-loop4 Inv-loop5 μ-loop5 Inv-loop μ-loop
 messages-less c = let h = (c .before .before .before) .messages-test .taken in omega (arith, h)
@@ -680,7 +729,7 @@ messages-again c =
       ⊎-elim (λ w. ap foundOf (w .3) ∙ w .1 .inv .1) (λ w. ap foundOf (w .1)) (c .if2 .came) ∙ ap soFar one,
       ⊎-elim
           (λ w.
-          let high = subst (λ (k : ℕ). k ≤ w .1 .c) (end-is t ((c .before .before .before .before .before .before .before .before .before) .clauses-end .result) ((c .before .before .before .before .before .before .before .before .before) .clauses-end .ensures)) (w .2 .left) in
+          let high = subst (λ (k : ℕ). k ≤ w .1 .c) (end-at (c .before .before .before .before .before .before .before .before .before)) (w .2 .left) in
           passed (N t) (N-sound t) (T t) (T-means t) (E t) (E-says t) slot (w .1 .c) from (message-below (c .before .before .before)) (w .1 .inv .0) high (w .1 .inv .2))
           (λ w.
           let message = getD (N t .slots) slot noMessage .message in
@@ -702,7 +751,8 @@ moved-requires : tie.Need-moved-requires Inv-loop2 μ-loop2 Inv-loop3 μ-loop3 I
 moved-requires c κs = tt
 
 element-copy-out-timeout-refusal : tie.Need-element-copy-out-timeout-refusal Inv-loop2 μ-loop2 Inv-loop3 μ-loop3 Inv-messages μ-messages Inv-loop4 μ-loop4 Inv-loop5 μ-loop5 Inv-loop μ-loop
-element-copy-out-timeout-refusal c = (c .before .before .before .before .before .before .before .before .before .before .before .before .before .before .before .before .before .before .before .before) .behaviour-index .ensures .1
+element-copy-out-timeout-refusal c =
+    (c .before .before .before .before .before .before .before .before .before .before .before .before .before .before .before .before .before .before .before .before) .behaviour-index .ensures .1
 
 timeout-refusal-requires : tie.Need-timeout-refusal-requires Inv-loop2 μ-loop2 Inv-loop3 μ-loop3 Inv-messages μ-messages Inv-loop4 μ-loop4 Inv-loop5 μ-loop5 Inv-loop μ-loop
 timeout-refusal-requires c κs = tt
@@ -752,16 +802,19 @@ add-later : tie.Need-add-later Inv-loop2 μ-loop2 Inv-loop3 μ-loop3 Inv-message
 add-later c = small (let h = (c .before) .loop4 .inv .0 in omega (arith, h))
 
 mul-later : tie.Need-mul-later Inv-loop2 μ-loop2 Inv-loop3 μ-loop3 Inv-messages μ-messages Inv-loop4 μ-loop4 Inv-loop5 μ-loop5 Inv-loop μ-loop
-mul-later c = small (let h = c .loop4-test .taken in let b = top-bound (c .before .before .before .before .before .before .before .before .before .before .before .before .before .before .before .before) in omega (arith, h, b))
+mul-later c = small (let h = c .loop4-test .taken in let b = top-bound
+    (c .before .before .before .before .before .before .before .before .before .before .before .before .before .before .before .before) in omega (arith, h, b))
 
 element-copy-out-later : tie.Need-element-copy-out-later Inv-loop2 μ-loop2 Inv-loop3 μ-loop3 Inv-messages μ-messages Inv-loop4 μ-loop4 Inv-loop5 μ-loop5 Inv-loop μ-loop
-element-copy-out-later c = let h = c .loop4-test .taken in let b = top-bound (c .before .before .before .before .before .before .before .before .before .before .before .before .before .before .before .before) in omega (arith, h, b)
+element-copy-out-later c = let h = c .loop4-test .taken in let b = top-bound
+    (c .before .before .before .before .before .before .before .before .before .before .before .before .before .before .before .before) in omega (arith, h, b)
 
 mul-later-2 : tie.Need-mul-later-2 Inv-loop2 μ-loop2 Inv-loop3 μ-loop3 Inv-messages μ-messages Inv-loop4 μ-loop4 Inv-loop5 μ-loop5 Inv-loop μ-loop
 mul-later-2 c = small (let h = (c .before .before) .loop4 .inv .0 in omega (arith, h))
 
 element-set-from-later : tie.Need-element-set-from-later Inv-loop2 μ-loop2 Inv-loop3 μ-loop3 Inv-messages μ-messages Inv-loop4 μ-loop4 Inv-loop5 μ-loop5 Inv-loop μ-loop
-element-set-from-later c = let h = (c .before) .loop4-test .taken in let b = top-bound (c .before .before .before .before .before .before .before .before .before .before .before .before .before .before .before .before .before) in omega (arith, h, b)
+element-set-from-later c = let h = (c .before) .loop4-test .taken in let b = top-bound
+    (c .before .before .before .before .before .before .before .before .before .before .before .before .before .before .before .before .before) in omega (arith, h, b)
 
 add-m-2 : tie.Need-add-m-2 Inv-loop2 μ-loop2 Inv-loop3 μ-loop3 Inv-messages μ-messages Inv-loop4 μ-loop4 Inv-loop5 μ-loop5 Inv-loop μ-loop
 add-m-2 c = small (let h = (c .before .before) .loop4 .inv .0 in omega (arith, h))
@@ -776,13 +829,17 @@ loop4-again c =
     let h = (c .before) .loop4-test .taken in
     let b = top-bound (c .before .before .before .before .before .before .before .before .before .before .before .before .before .before .before .before .before) in
     let size : length (N t .slots) ≡ 256 = parts-of (N t) (N-sound t) .sized .mail .cells in
-    let room : 16 * T t .at + (c .before .before .before .before .before .before .before .before .before .before .before .before .before .before .before .before .before) .up-to .result ≤ length (N t .slots) = subst (λ (k : ℕ). 16 * T t .at + (c .before .before .before .before .before .before .before .before .before .before .before .before .before .before .before .before .before) .up-to .result ≤ k) (sym size) b in
+    let room : 16 * T t .at + (c .before .before .before .before .before .before .before .before .before .before .before .before .before .before .before .before .before) .up-to .result ≤
+    length (N t .slots) = subst
+    (λ (k : ℕ). 16 * T t .at + (c .before .before .before .before .before .before .before .before .before .before .before .before .before .before .before .before .before) .up-to .result ≤ k)
+    (sym size) b in
     let q = (c .before .before) .loop4 .node in
     let slots = set (q .slots) ((c .before .before) .loop4 .m) (getD (q .slots) ((c .before .before) .loop4 .m + 1) noMessage) in
     (omega (arith, h, b), ap (λ (k : Node). withSlots k slots) (v .1), moved-more noMessage (v .2) h room)
 
 loop-less : tie.Need-loop-less Inv-loop2 μ-loop2 Inv-loop3 μ-loop3 Inv-messages μ-messages Inv-loop4 μ-loop4 Inv-loop5 μ-loop5 Inv-loop μ-loop
-loop-less c = let h = in-list (c .before .before .before .before .before .before .before .before .before .before .before .before .before .before .before .before .before .before) in omega (arith, h)
+loop-less c = let h = in-list (c .before .before .before .before .before .before .before .before .before .before .before .before .before .before .before .before .before .before) in omega
+    (arith, h)
 
 loop-again : tie.Need-loop-again Inv-loop2 μ-loop2 Inv-loop3 μ-loop3 Inv-messages μ-messages Inv-loop4 μ-loop4 Inv-loop5 μ-loop5 Inv-loop μ-loop
 loop-again c =
@@ -790,13 +847,17 @@ loop-again c =
     let l = (c .before .before .before .before .before .before .before .before .before) in
     let n = N t in
     let v = (c .before) .loop4 .inv in
-    let last = last-is t ((c .before .before .before .before .before .before .before .before .before .before .before .before .before .before .before .before .before) .if1 .taken) ((c .before .before .before .before .before .before .before .before .before .before .before .before .before .before .before .before) .up-to .result) ((c .before .before .before .before .before .before .before .before .before .before .before .before .before .before .before .before) .up-to .ensures) in
+    let last = last-at (c .before .before .before .before .before .before .before .before .before .before .before .before .before .before .before .before) in
     let next = (c .before .before .before .before) .after-search .ensures ∙ ap (afterSearch (P n (N-sound t) (T t) (T-means t))) (answers l .is) in
     let at : 16 * T t .at + (c .before .before) .fit-index .result ≡ 16 * T t .at + fitIndex (min (waits t) 16) (S n (N-sound t) (T t) (T-means t)) =
-    ap (λ (k : ℕ). 16 * T t .at + k) ((c .before .before) .fit-index .ensures ∙ (λ i. fitIndex ((c .before .before .before .before .before .before .before .before .before .before .before .before .before .before .before .before) .up-to .ensures i) (answers l .is i))) in
+    ap (λ (k : ℕ). 16 * T t .at + k)
+    ((c .before .before) .fit-index .ensures ∙
+    (λ i. fitIndex ((c .before .before .before .before .before .before .before .before .before .before .before .before .before .before .before .before) .up-to .ensures i) (answers l .is i)))
+    in
     let slots = moved-end (v .2) (c .loop4-test .left) ∙ (λ i. up (at i) (last i) (n .slots)) in
     plays-on t ((c .before .before .before .before .before) .if6 .left) _ _
-    (v .1 ∙ (λ i. made n (set (n .processes) (T t .at) (next i)) (record { cells = slots i; counts = set (n .waiting) (T t .at) ((c .before .before .before) .fallen .ensures i) }) (flightShelf n)))
+    (v .1 ∙ (λ i. made n (set (n .processes) (T t .at) (next i)) (record { cells = slots i; counts = set (n .waiting) (T t .at) ((c .before .before .before) .fallen .ensures i) })
+    (flightShelf n)))
     (takes-one (c .before .before .before .before .before .before))
 
 row-index-requires : tie.Need-row-index-requires Inv-loop2 μ-loop2 Inv-loop3 μ-loop3 Inv-messages μ-messages Inv-loop4 μ-loop4 Inv-loop5 μ-loop5 Inv-loop μ-loop
@@ -965,10 +1026,15 @@ loop5-again c =
     let q = (c .before .before) .loop5 .node in
     let h = (c .before) .loop5-test .taken in
     let b = arrival-bound t in
-    let clear = commits (c .before .before .before .before .before .before .before .before .before) ((c .before .before .before .before .before .before .before .before) .if9 .left) .cleared in
-    let size : length ((c .before .before .before .before .before) .if13 .node .cells) ≡ 1024 = ap (λ (x : Node). length (x .cells)) (stored-is (c .before .before .before .before .before)) ∙ stored-cells (N t) (N-sound t) (T t) (T-means t) (E t) (E-says t) clear in
-    let room : 4 * T t .row + 3 + 1 ≤ length ((c .before .before .before .before .before) .if13 .node .cells) = subst (λ (k : ℕ). 4 * T t .row + 3 + 1 ≤ k) (sym size) (omega (arith, b)) in
-    ((λ i. withCells (v .0 i) (set (q .cells) ((c .before .before) .loop5 .f) (getD (q .cells) ((c .before .before) .loop5 .f + 1) noSignal))), moved-more noSignal (v .1) (omega (arith, h)) room)
+    let clear = commits (c .before .before .before .before .before .before .before .before .before) ((c .before .before .before .before .before .before .before .before) .if9 .left) .cleared
+    in
+    let size : length ((c .before .before .before .before .before) .if13 .node .cells) ≡ 1024 = ap (λ (x : Node). length (x .cells)) (stored-is (c .before .before .before .before .before)) ∙
+    stored-cells (N t) (N-sound t) (T t) (T-means t) (E t) (E-says t) clear in
+    let room : 4 * T t .row + 3 + 1 ≤ length ((c .before .before .before .before .before) .if13 .node .cells) = subst (λ (k : ℕ). 4 * T t .row + 3 + 1 ≤ k) (sym size) (omega (arith, b)) in (
+      (λ i. withCells (v .0 i) (set (q .cells) ((c .before .before) .loop5 .f) (getD (q .cells) ((c .before .before) .loop5 .f + 1) noSignal))),
+      moved-more noSignal (v .1) (omega (arith, h))
+          room,
+    )
 
 blank-requires : tie.Need-blank-requires Inv-loop2 μ-loop2 Inv-loop3 μ-loop3 Inv-messages μ-messages Inv-loop4 μ-loop4 Inv-loop5 μ-loop5 Inv-loop μ-loop
 blank-requires c κs = tt
@@ -996,7 +1062,8 @@ loop-again-4 c =
     let t = (c .before .before .before .before .before .before .before .before .before .before .before .before .before .before) in
     let stored = stored-is (c .before .before .before .before .before .before .before) in
     let behind = flight (c .before .before .before .before .before .before .before) in
-    let w = commits (c .before .before .before .before .before .before .before .before .before .before .before) ((c .before .before .before .before .before .before .before .before .before .before) .if9 .left) in
+    let w = commits (c .before .before .before .before .before .before .before .before .before .before .before)
+    ((c .before .before .before .before .before .before .before .before .before .before) .if9 .left) in
     let v = (c .before .before .before .before) .loop5 .inv in
     let q = (c .before .before .before .before) .loop5 .node in
     let shift : List Cell → List Cell = up (4 * T t .row) (4 * T t .row + 4) in
@@ -1008,7 +1075,8 @@ loop-again-4 c =
     let fewer = c .fallen2 .ensures ∙ ap (λ (x : Node). getD (x .counts) (T t .row) 0 - 1) moved in
     plays-on t ((c .before .before .before .before .before .before .before .before .before) .if11 .left) _ _
     ((λ i. arrival-in (moved i) (T t .row) ((c .before .before) .blank .ensures i) (fewer i))
-    ∙ stored-arrival (N t) (N-sound t) (T t) (T-means t) (E t) (E-says t) (w .cleared) w (arrival-bound t) ((c .before .before .before .before .before) .if15 .taken) ((c .before .before .before .before .before .before) .if14 .left))
+    ∙ stored-arrival (N t) (N-sound t) (T t) (T-means t) (E t) (E-says t) (w .cleared) w (arrival-bound t) ((c .before .before .before .before .before) .if15 .taken)
+    ((c .before .before .before .before .before .before) .if14 .left))
     (w .answer)
 
 loop-less-5 : tie.Need-loop-less-5 Inv-loop2 μ-loop2 Inv-loop3 μ-loop3 Inv-messages μ-messages Inv-loop4 μ-loop4 Inv-loop5 μ-loop5 Inv-loop μ-loop
@@ -1031,8 +1099,10 @@ returns-4 c =
     let h = (c .before) .loop-test .left in
     let n = (c .before .before .before .before) .args .n in
     let l = (c .before .before .before .before) .args .numbers .now in (
-      λ e. c .ended4 .ensures ∙ over l ((c .before .before) .loop .i) ((c .before .before) .loop .node) h (subst (λ (b : Bool). Going b n l ((c .before .before) .loop .i) ((c .before .before) .loop .node)) e (v .2)),
-      λ e. ap (λ (r : Outcome). r .accepted) (c .ended4 .ensures) ∙ look-over n l ((c .before .before) .loop .i) ((c .before .before) .loop .node) (v .1) (subst (λ (b : Bool). Going b n l ((c .before .before) .loop .i) ((c .before .before) .loop .node)) e (v .2)) h,
+      λ e. c .ended4 .ensures ∙ over l ((c .before .before) .loop .i) ((c .before .before) .loop .node) h
+          (subst (λ (b : Bool). Going b n l ((c .before .before) .loop .i) ((c .before .before) .loop .node)) e (v .2)),
+      λ e. ap (λ (r : Outcome). r .accepted) (c .ended4 .ensures) ∙ look-over n l ((c .before .before) .loop .i) ((c .before .before) .loop .node) (v .1)
+          (subst (λ (b : Bool). Going b n l ((c .before .before) .loop .i) ((c .before .before) .loop .node)) e (v .2)) h,
     )
 
 pub core-spec : {M : Type 1} → statement M
