@@ -10,7 +10,6 @@ use mathlib.Core.List.{map}
 use mathlib.Core.Option.{none, some}
 use mathlib.Core.Path.{_≡_, refl, sym, _∙_, ap}
 use Prim.Native.Nat.{ℕ, _+_, _-_, _*_, _≤_, _<_}
-use native.Mathlib.Nat.{mul-le-mul-right}
 use native.Mathlib.Omega.{arith}
 use borrow.Author.Tests.{leb-true, lt-leb, ltb-true, ltb-false}
 use lib.Dec.{eqb, ltb}
@@ -40,6 +39,7 @@ use Rattle.rules.specs.Nodes.{Sound, sound, behavioursOf, code, process, mailbo
 use Rattle.rules.specs.Timeout.{isLive}
 use Rattle.rules.proofs.All.{parts}
 use Rattle.rules.proofs.Commits.{Parts, parts-of}
+use Rattle.rules.proofs.Consequences.{at-most-128}
 use Rattle.rules.proofs.Consult.{few-consulted}
 use Rattle.rules.proofs.Living.{alive}
 use Rattle.rules.proofs.Paths.{recv-bounds}
@@ -159,10 +159,7 @@ module _ (n : Node) (is : Sound n) (i : ℕ) where
           ap (map (λ (s : Slot). s .message)) (sym (firsts-take noMessage W (take 16 box) (rw size few) ∙ take-take W 16 box few))
 
       pub consulted-bound : consulted (clausesOf n i) (mailbox n i) ≤ 128
-      consulted-bound =
-          let all = few-consulted (clausesOf n i) .1 (mailbox n i) in
-          let each = mul-le-mul-right (length (clausesOf n i)) few-messages in
-          omega (arith, all, each, few-clauses)
+      consulted-bound = at-most-128 few-consulted (clausesOf n i) (mailbox n i) few-clauses few-messages
 
     -- ---- what is told
 

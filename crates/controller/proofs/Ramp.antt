@@ -27,11 +27,12 @@ use Rattle.node.specs.Processes.{processOf, unborn, fresh, register, withRegist
 use Rattle.node.specs.Processes.{watchesOver, watching, unwatching, watched, unwatched, withWatches, withWatchers}
 use Rattle.node.specs.Sets.{noPeers, bitsOf, has, withPeer, withoutPeer, lowestPeer}
 use Rattle.node.specs.Rows.{noSignal, signals, cellOf}
-use Rattle.node.specs.Values.{intZero, normal, kill, killed, badarg, badarith, noproc, pid, isNumber, fitsInt, intKind, atomKind, sameValue}
+use Rattle.node.specs.Values.{intZero, normal, kill, killed, badarg, badarith, noproc, pid, isNumber, fitsInt, exactKind, anyKind, intKind, atomKind, sameValue}
 use Rattle.node.specs.Texts.{bytes}
 use Rattle.rules.specs.Arrive.{arrives, exits, downs}
 use Rattle.rules.specs.Behaviours.{operand, instruction, operandInRange, inRange, hasClauses, targetsFree, wellPlaced, codeSound}
 use Rattle.rules.specs.Nodes.{Sound, sound, shaped, viewSound, view, behavioursOf, code, setOf, standing, runningSound, rowSound}
+use Rattle.rules.specs.Consult.{canTake, consulted}
 use Rattle.rules.specs.Receive.{receives, fits}
 use Rattle.rules.specs.Run.{runs, runsLive, runsOp, closes}
 use Rattle.rules.specs.Timeout.{atAfter, expiresLive, expires}
@@ -121,11 +122,14 @@ pub data Check : Type 0 where
   printing : (plan steps output : List ℕ) → Check
   -- a node and steps, and what a play of them answers: accepted, refusal, node
   playing : Node → List Action → ℕ → ℕ → Node → Check
+  -- clauses and a mailbox, and how many clauses a search consults
+  consulting : List Op → List Message → ℕ → Check
 
 pub Holds : Check → Type 0
 Holds idle = (n : Node) → Sound n → play n [] ≡ record { accepted = 0; refusal = 0; node = n }
 Holds (printing plan steps output) = programText plan steps ≡ output
 Holds (playing n l k r m) = play n l ≡ record { accepted = k; refusal = r; node = m }
+Holds (consulting cs ms k) = consulted cs ms ≡ k
 
 pub All : List Check → Type 0
 All [] = Unit {0}
@@ -159,6 +163,10 @@ running p q = playing (world p [] 1 1 []) (run 1 ∷ []) 1 0 (world q [] 1 1 [])
 -- a step that is refused with k
 refusing : Node → Action → ℕ → Check
 refusing n a k = playing n (a ∷ []) 0 k n
+
+-- a clause of kind k; v is read where k is one exact value
+takes : ℕ → Value → Op
+takes k v = opOf 11 0 1 3 k v
 
 fives : ℕ → List Message
 fives k = replicate k (Plain (int 5))
@@ -281,6 +289,11 @@ table =
     -- with a7, which fits, behind i5, which does not: a7 leaves
     ∷ playing (world waiter (Plain (int 5) ∷ Plain (Atom 7) ∷ []) 1 1 []) (run 1 ∷ []) 1 0
     (holding 1 (Plain (Atom 7)) (world (withPlace (rower 6 (Atom 7) intZero false unlinkedLinks) 3) (fives 1) 1 1 []))
+    -- clauses consulted: atom, int for i5,a7 of P10; int, a3 and int, int for a7; int, any for a7
+    ∷ consulting (takes atomKind intZero ∷ takes intKind intZero ∷ []) (Plain (int 5) ∷ Plain (Atom 7) ∷ []) 2
+    ∷ consulting (takes intKind intZero ∷ takes exactKind (Atom 3) ∷ []) (Plain (Atom 7) ∷ []) 2
+    ∷ consulting (takes intKind intZero ∷ takes intKind intZero ∷ []) (Plain (Atom 7) ∷ []) 0
+    ∷ consulting (takes intKind intZero ∷ takes anyKind intZero ∷ []) (Plain (Atom 7) ∷ []) 2
     -- the sample plan, after run=1 three times, arrive=2,1, run=2
     ∷ playing started sampleActions 5 0
     (holding 16 (Plain (int 12)) (sample (withPlace (rower 1 (pid 2) (int 12) false unlinkedLinks) 3) (withPlace (rower 2 (int 12) intZero false unlinkedLinks) 2)))
@@ -321,8 +334,8 @@ unfolding play played
 no-steps n h = rw h
 
 pub ramp : All table
-unfolding All Holds table arrival running refusing plain rower closed over world holding fives sender spawner watcher monitorer waiter flying unlinkedLinks linkTwo linkThree linkTwoThree sample started ramp-ops opOf play played step rule ready commit incoming decide numbered ownerBorn signalWaits pairHasRoom numberFree sound shaped viewSound view behavioursOf code setOf has bitsOf standing runningSound rowSound receives fits runs runsLive runsOp closes expires expiresLive atAfter arrives exits downs operand instruction operandInRange inRange hasClauses targetsFree wellPlaced codeSound isNumber fitsInt sameValue messages signals changed joined left popped emptied register withRegister moved advanced trapped linksTo linked unlinked watchesOver watching unwatching watched unwatched withPeer withoutPeer lowestPeer ended gone kindsOf
+unfolding All Holds table takes canTake arrival running refusing plain rower closed over world holding fives sender spawner watcher monitorer waiter flying unlinkedLinks linkTwo linkThree linkTwoThree sample started ramp-ops opOf play played step rule ready commit incoming decide numbered ownerBorn signalWaits pairHasRoom numberFree sound shaped viewSound view behavioursOf code setOf has bitsOf standing runningSound rowSound receives fits runs runsLive runsOp closes expires expiresLive atAfter arrives exits downs operand instruction operandInRange inRange hasClauses targetsFree wellPlaced codeSound isNumber fitsInt sameValue messages signals changed joined left popped emptied register withRegister moved advanced trapped linksTo linked unlinked watchesOver watching unwatching watched unwatched withPeer withoutPeer lowestPeer ended gone kindsOf
 ramp =
-    let last : All (drop 35 table) = (refl, (refl, (refl, (refl, (refl, (refl, (refl, (refl, (refl, (refl, (refl, tt))))))))))) in
+    let last : All (drop 35 table) = (refl, (refl, (refl, (refl, (refl, (refl, (refl, (refl, (refl, (refl, (refl, (refl, (refl, (refl, (refl, tt))))))))))))))) in
     let others : All (drop 16 table) = (refl, (refl, (refl, (refl, (refl, (refl, (refl, (refl, (refl, (refl, (refl, (refl, (refl, (refl, (refl, (refl, (refl, (refl, (refl, last))))))))))))))))))) in
     (no-steps, (sample-program, (refl, (refl, (refl, (refl, (refl, (refl, (refl, (refl, (refl, (refl, (refl, (refl, (refl, (refl, others))))))))))))))))

@@ -15,30 +15,36 @@
 --   run-before-timeout timeout-before-arrival owner-first
 --                      of it the three plain cases: within one owner, and from an owner's last step to the next owner's first
 --   none-means-stuck   NoneOnOffer: none is never suggested while a step would be accepted
+--   other-kinds-aside  SameFit: document 01's search passes over a message of a kind that no clause can take
+--   at-most-128        FewConsulted: within the limits of a plan at most 128 clauses are consulted
 use mathlib.Core.Bool.{Bool, true, false, So, cond, not, _&&_, true≢false, false≢true}
 use mathlib.Core.List.{List, [], _∷_}
 use mathlib.Core.Logic.{inl, inr}
 use mathlib.Core.Option.{none, some}
 use mathlib.Core.Path.{_≡_, refl, sym, _∙_, ap, subst}
-use Prim.Native.Nat.{ℕ, zero, suc, _≤_, _<_}
+use Prim.Native.Nat.{ℕ, zero, suc, _+_, _≤_, _<_}
+use native.Mathlib.Nat.{mul-le-mul-right}
 use native.Mathlib.Omega.{arith}
 use borrow.Author.Tests.{eqb-true, eq-eqb}
 use lib.Dec.{eqb}
 use lib.ListN.{length, getD, take, drop}
+use Rattle.node.specs.declared.Message.{Message}
 use Rattle.node.specs.declared.Node.{Node}
+use Rattle.node.specs.declared.Op.{Op}
 use Rattle.node.specs.declared.Stage.{Stage}
 use Rattle.node.specs.declared.Stage.the-variants.{Unborn, Live, Closing, Gone}
 use Rattle.node.specs.Nodes.{noOp}
 use Rattle.node.specs.Ops.{recvOp}
-use Rattle.node.specs.Values.{isNumber}
+use Rattle.node.specs.Values.{isNumber, messageKind}
 use Rattle.rules.specs.Answers.{Answer, refused, done, need, goOn, badNumber, ownerUnborn, mailboxEmpty, pairFull, notUnborn, noTimeout, noFit}
 use Rattle.rules.specs.Calls.{Call, single, schedule, nodeBehind, callNode, after}
 use Rattle.rules.specs.Effects.{Effect}
-use Rattle.rules.specs.Consult.{opsOf, clausesOf, atRecv}
+use Rattle.rules.specs.Consult.{oneCanTake, consulted, opsOf, clausesOf, atRecv}
 use Rattle.rules.specs.Guarantees.{Order, SoundKept, Stopped, PlayIsSteps, Cause, undecided, full, taken, Exclusive, rank, Forward}
 use Rattle.rules.specs.Guarantees.{mayExpire, Timeouts, isRefusal, isEmpty, Quiet, Confused}
-use Rattle.rules.specs.Guarantees.{Earlier, turnOf, InTurn, FirstOnOffer, NoneOnOffer}
+use Rattle.rules.specs.Guarantees.{Earlier, turnOf, InTurn, FirstOnOffer, NoneOnOffer, SameFit, FewConsulted}
 use Rattle.rules.specs.Nodes.{Sound, process, mailbox}
+use Rattle.rules.specs.Receive.{search}
 use Rattle.rules.specs.Steps.{Action, run, arrive, timeout, owner, isUnborn, numbered, ownerBorn, signalWaits, pairHasRoom, numberFree, commit, decide, ready, rule, step, play}
 use Rattle.rules.specs.Suggest.{atTurn, acceptable, suggest}
 use Rattle.rules.specs.Timeout.{atAfter, isLive, noneFits}
@@ -252,3 +258,14 @@ module _ (f : FirstOnOffer) (n : Node) where
 
 pub none-means-stuck : NoneOnOffer → (n : Node) → Sound n → (a : Action) → So (acceptable n a) → suggest n ≡ done none → ⊥
 none-means-stuck f n s a h e = true≢false (sym h ∙ f n s .0 e a)
+
+-- ---- SameFit and FewConsulted
+
+pub other-kinds-aside : SameFit → (cs : List Op) (i : ℕ) (m : Message) (ms : List Message) → oneCanTake cs (messageKind m) ≡ false → search cs i (m ∷ ms) ≡ search cs (i + 1) ms
+other-kinds-aside f cs i m ms h = sym (f cs i (m ∷ ms)) ∙ rw h (f cs (i + 1) ms)
+
+pub at-most-128 : FewConsulted → (cs : List Op) (ms : List Message) → length cs ≤ 8 → length ms ≤ 16 → consulted cs ms ≤ 128
+at-most-128 f cs ms few some-mail =
+    let all = f cs .1 ms in
+    let each = mul-le-mul-right (length cs) some-mail in
+    omega (arith, all, each, few)

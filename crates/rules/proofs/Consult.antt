@@ -3,10 +3,10 @@
 --   kind-taken      a clause that takes a message can take its kind
 --   none-takes      where no clause can take the kind of a message, the later messages decide
 --   same-fit few-consulted   the guarantees
-use mathlib.Core.Bool.{Bool, true, false, cond, _&&_, _||_, false≢true}
+use mathlib.Core.Bool.{Bool, true, false, cond, _||_, false≢true}
 use mathlib.Core.List.{List, [], _∷_}
 use mathlib.Core.Option.{Option, some}
-use mathlib.Core.Path.{_≡_, refl, sym, _∙_, ap}
+use mathlib.Core.Path.{_≡_, refl, sym, _∙_}
 use Prim.Native.Nat.{ℕ, suc, _+_, _*_, _≤_}
 use native.Mathlib.Omega.{arith}
 use borrow.Author.Tests.{eqb-true, eq-eqb}
@@ -17,7 +17,7 @@ use Rattle.node.specs.declared.Message.the-variants.{Plain, Note, Down}
 use Rattle.node.specs.declared.Op.{Op}
 use Rattle.node.specs.declared.Value.{Value}
 use Rattle.node.specs.Values.{exactKind, anyKind, kindOf, messageKind, numberIn, sameInt, sameValue}
-use Rattle.rules.specs.Consult.{canTake, oneCanTake, byKind, tried, consulted}
+use Rattle.rules.specs.Consult.{canTake, oneCanTake, tried, consulted}
 use Rattle.rules.specs.Guarantees.{SameFit, FewConsulted}
 use Rattle.rules.specs.Receive.{Fit, isValue, fits, firstClause, search}
 use Rattle.rules.proofs.All.{parts}

@@ -1,5 +1,6 @@
 -- That the guarantees speak of something: the sample node is sound, lists of steps on it that differ and end alike, a step that is refused
--- with 25 and one with 29, and what is suggested while process 1 can step and once it is gone, computed. Assumes nothing.
+-- with 25 and one with 29, what is suggested while process 1 can step and once it is gone, and a search that consults 128 clauses, computed. Assumes
+-- nothing.
 use mathlib.Core.Bool.{false}
 use mathlib.Core.List.{List, [], _∷_, map}
 use mathlib.Core.Option.{some}
@@ -18,11 +19,12 @@ use Rattle.node.specs.Ops.{kindsOf}
 use Rattle.node.specs.Processes.{register, withRegister, moved, advanced, trapped, linksTo, linked, unlinked, ended, gone}
 use Rattle.node.specs.Rows.{signals, oldest}
 use Rattle.node.specs.Sets.{noPeers, bitsOf, has, withPeer, withoutPeer, lowestPeer}
-use Rattle.node.specs.Values.{intZero, normal, pid, isNumber, fitsInt}
+use Rattle.node.specs.Values.{exactKind, intZero, normal, pid, isNumber, fitsInt, sameValue}
 use Rattle.rules.specs.Answers.{refused, done, mailboxEmpty, noFit}
 use Rattle.rules.specs.Arrive.{arrives, exits}
 use Rattle.rules.specs.Behaviours.{operand, instruction, operandInRange, inRange, hasClauses, targetsFree, wellPlaced, codeSound}
 use Rattle.rules.specs.Calls.{Call, single, schedule, callNode, callSteps, after, accepted}
+use Rattle.rules.specs.Consult.{canTake, consulted}
 use Rattle.rules.specs.Nodes.{Sound, sound, shaped, viewSound, view, behavioursOf, code, setOf, standing, runningSound, rowSound}
 use Rattle.rules.specs.Receive.{receives, fits}
 use Rattle.rules.specs.Run.{runs, runsLive, runsOp, closes}
@@ -131,3 +133,8 @@ offers-ending = refl
 pub offers-second : suggest (play started (run 1 ∷ run 1 ∷ run 1 ∷ arrive 2 1 ∷ run 1 ∷ run 1 ∷ []) .node) ≡ done (some (run 2))
 unfolding suggest possible acceptable started sample opOf play played step rule ready commit incoming decide numbered ownerBorn signalWaits pairHasRoom numberFree sound shaped viewSound view behavioursOf code setOf has bitsOf standing runningSound rowSound receives fits runs runsLive runsOp closes arrives exits expires operand instruction operandInRange inRange hasClauses targetsFree wellPlaced codeSound isNumber fitsInt messages changed joined left popped emptied signals oldest register withRegister moved advanced trapped linksTo linked unlinked withPeer withoutPeer lowestPeer ended gone kindsOf
 offers-second = refl
+
+-- sixteen messages i1 and eight clauses i0: each clause is consulted for each message, in vain
+pub consults-all : consulted (replicate 8 (opOf 11 0 1 0 exactKind intZero)) (replicate 16 (Plain (int 1))) ≡ 128
+unfolding canTake fits opOf sameValue
+consults-all = refl

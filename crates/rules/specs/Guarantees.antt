@@ -21,14 +21,12 @@ use mathlib.Core.Option.{none, some}
 use mathlib.Core.Path.{_≡_}
 use Prim.Native.Nat.{ℕ, _+_, _-_, _*_, _≤_, _<_}
 use lib.Dec.{eqb}
-use lib.ListN.{length, getD, set, take, drop}
+use lib.ListN.{length, set, take, drop}
 use Rattle.node.specs.declared.Message.{Message}
 use Rattle.node.specs.declared.Node.{Node}
 use Rattle.node.specs.declared.Op.{Op}
 use Rattle.node.specs.declared.Stage.{Stage}
 use Rattle.node.specs.declared.Stage.the-variants.{Unborn, Live, Closing, Gone}
-use Rattle.node.specs.Nodes.{noOp}
-use Rattle.node.specs.Ops.{recvOp}
 use Rattle.node.specs.Processes.{moved}
 use Rattle.node.specs.Values.{isNumber}
 use Rattle.rules.specs.Answers.{Answer, refused, done, need, badNumber, ownerUnborn, mailboxEmpty, pairFull, notUnborn, noTimeout, noFit}

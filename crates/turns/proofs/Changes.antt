@@ -5,7 +5,7 @@
 --   sentNext k e      how many signals its row has
 --   cellNext c e      what the cell holds in which a signal is sent
 --   slotNext s e      what the slot holds in which a message joins
-use mathlib.Core.Bool.{Bool, cond}
+use mathlib.Core.Bool.{cond}
 use Prim.Native.Nat.{ℕ, _+_, _*_, _-_, min}
 use Rattle.decisions.specs.declared.Decision.{Decision}
 use Rattle.node.specs.declared.Cell.{Cell}

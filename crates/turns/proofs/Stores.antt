@@ -11,9 +11,9 @@ use native.Mathlib.Numerals.{add-one}
 use native.Mathlib.Omega.{arith}
 use borrow.Author.Tests.{ltb-true, ltb-false}
 use lib.Dec.{ltb}
-use lib.ListN.{length, getD, take, drop, set, length-take, length-drop, length-set, drop-of-length-le, take-append-drop}
-use lib.Seq.{sets, sets-eq, set-comm, set-set, set-getD, drop-cons, drop-set-add, take-set-lt, take-nil, length-take-le, drop-drop, getD-take, getD-drop}
-use Rattle.node.specs.Blocks.{Block, Shelf, blockOf, changed, joined, up, left, popped, emptied}
+use lib.ListN.{length, getD, take, drop, set, length-drop, length-set, drop-of-length-le, take-append-drop}
+use lib.Seq.{sets, sets-eq, set-comm, set-set, set-getD, drop-cons, drop-set-add, take-set-lt, length-take-le, drop-drop}
+use Rattle.node.specs.Blocks.{Shelf, changed, joined, up, left, popped, emptied}
 use Rattle.node.specs.Lists.{leave}
 use Rattle.node.proofs.Blocks.{Room, whole, set-sets, up-length}
 

@@ -4,7 +4,7 @@
 --   turn-refused   a refusal is the rule's;  turn-cleared, turn-searching  without one the decision is cleared
 --   turn-done      a decision that searches no mailbox is committed
 --   run-searched, timeout-searched   where the mailbox is searched, what the search answers decides; search-hit, search-over  what it answers
-use mathlib.Core.Bool.{Bool, true, false, not, So, cond, _&&_, false≢true}
+use mathlib.Core.Bool.{Bool, true, false, So, cond, _&&_, false≢true}
 use mathlib.Core.List.{List, [], _∷_}
 use mathlib.Core.Logic.{_⊎_, inl, inr, ⊎-elim}
 use mathlib.Core.Option.{Option, none, some}
@@ -41,7 +41,7 @@ use Rattle.node.specs.Rows.{noSignal, cellOf, oldest}
 use Rattle.node.specs.Values.{pid, isNumber}
 use Rattle.node.proofs.Contents.{messages-length, messages-at, signals-length}
 use Rattle.rules.specs.Answers.{Answer, refused, done, need, badNumber, ownerUnborn, noneInFlight, mailboxEmpty, noFit, pairFull, notUnborn, noTimeout}
-use Rattle.rules.specs.Effects.{State, unchanged, joining, leaving, Effect, Sending, Birth}
+use Rattle.rules.specs.Effects.{State, unchanged, joining, leaving, Effect}
 use Rattle.rules.specs.Nodes.{Sound, behavioursOf, code, process, mailbox, row}
 use Rattle.rules.specs.Receive.{Fit, fits, firstClause, search, withMessage, Searched, silent, unfit, fit, answered, searchNumber, receivesBy, receives}
 use Rattle.rules.specs.Run.{runs}
@@ -56,7 +56,7 @@ use Rattle.receive.specs.Kinds.{noKinds, noted, notedAll, widened, takes}
 use Rattle.receive.proofs.KindSets.{left-out, noting-turn, noting-end}
 use Rattle.receive.proofs.Laws.{message-turn, message-end, clause-hit, clause-miss, clause-end, soFar, answered-none, answered-fit}
 use Rattle.rules.proofs.Living.{alive}
-use Rattle.rules.proofs.Keeps.{MailOk, Keeps, NotBoth}
+use Rattle.rules.proofs.Keeps.{Keeps}
 use Rattle.rules.proofs.Commits.{Parts, parts-of, decided-keeps, owner-number}
 use Rattle.rules.proofs.Paths.{behaviour-bounds, code-length, code-bound, code-at, recv-bounds, rule-20, rule-21, rule-23, rule-undecided, rule-26, rule-27, rule-done}
 use Rattle.rules.proofs.Records.{number-bounds}
@@ -64,7 +64,7 @@ use Rattle.rules.proofs.Shape.{Sized}
 use Rattle.node.proofs.Blocks.{Room, whole as whole-block, changed-comm, changed-same, joined-keeps, popped-keeps, popped-joined}
 use Rattle.turns.proofs.Changes.{cellAt, searchedOf, waitingNext, sentNext, cellNext, slotNext}
 use Rattle.turns.proofs.Recv.{AtRecv, only-recv}
-use Rattle.turns.proofs.Stores.{up-end, store-joined, store-left, store-emptied, store-popped}
+use Rattle.turns.proofs.Stores.{store-joined, store-left, store-emptied, store-popped}
 
 -- ---- a signal, and a search
 
@@ -141,7 +141,7 @@ module _ (n : Node) (whole : Parts n) (i : ℕ) (number : So (isNumber i)) (live
       let x : 32 * ((b - 1) % 8) + Q .place % 32 + k ≡ 32 * (b - 1) + (Q .place + k) = omega (arith, known, short, h) in
       rw x (sym (code-at n whole i number live (Q .place + k) h))
 
-  stands-in : Stands n Q
+  pub stands-in : Stands n Q
   stands-in =
       let w : (b - 1) % 8 ≡ b - 1 = omega (arith, known) in
       let z : Q .place + 0 ≡ Q .place = add-zero (Q .place) in
@@ -151,7 +151,7 @@ module _ (n : Node) (whole : Parts n) (i : ℕ) (number : So (isNumber i)) (live
         op = λ h. sym (rw (y, z) at (op-is 0 (omega (arith, h))));
       }
 
-  clauses-in : Q .place < length (code n b) → getD (code n b) (Q .place) noOp .number ≡ recvOp → Clauses n Q
+  pub clauses-in : Q .place < length (code n b) → getD (code n b) (Q .place) noOp .number ≡ recvOp → Clauses n Q
   clauses-in inside recv =
       let o = getD (n .ops) (placeAt n Q) noOp in
       let same : getD (code n b) (Q .place) noOp ≡ o = stands-in .op inside in

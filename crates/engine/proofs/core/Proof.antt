@@ -1,6 +1,6 @@
 -- The loop of the engine. What a turn knows is named once, at the places of the walk where it is learnt. Assumes nothing.
 use mathlib.Core.Bool.{Bool, true, false, cond, false≢true}
-use mathlib.Core.List.{List, map}
+use mathlib.Core.List.{List}
 use mathlib.Core.Logic.{_⊎_, inl, inr, ⊎-elim}
 use mathlib.Core.Path.{_≡_, refl, sym, _∙_, ap, subst}
 use Prim.Native.Nat.{ℕ, suc, _+_, _-_, _*_, _≤_, _<_, min}
@@ -8,10 +8,8 @@ use native.Mathlib.Omega.{arith}
 use borrow.Author.Needs.{needs, fits-under}
 use mir.Syntax.{w64}
 use mir.Val.{Fits}
-use borrow.Author.Tests.{lt-ltb, le-ltb}
-use lib.Dec.{ltb}
 use lib.ListN.{length, getD, drop, set}
-use lib.Seq.{set-set, set-getD}
+use lib.Seq.{set-getD}
 use Rattle.actions.specs.Numbers.{actionOf}
 use Rattle.actions.specs.Places.{behaviourAt}
 use Rattle.actions.specs.declared.Decoded.{Decoded}
@@ -39,11 +37,10 @@ use Rattle.rules.specs.Nodes.{Sound}
 use Rattle.rules.specs.Receive.{firstClause, search as searchFor, Searched, unfit, searchNumber}
 use Rattle.rules.specs.Answers.{refused, done}
 use Rattle.rules.specs.Steps.{Action, Outcome, rule, played}
-use Rattle.engine.specs.Answers.{firstOf}
 use Rattle.turns.proofs.Changes.{cellAt, searchedOf, waitingNext, sentNext, cellNext, slotNext}
 use Rattle.engine.proofs.Laws.{Going, going, stop, more, over, look-more, look-stop, look-over, withSlots, withCells, mailOf}
-use Rattle.turns.proofs.Stores.{up-end, Moved, moved-start, moved-more, moved-end}
-use Rattle.turns.proofs.Turns.{placeAt, clausesOf, behindOp, P, O, L, C, X, W, S, Says, Y, Z, pairTold, birthTold, top, join}
+use Rattle.turns.proofs.Stores.{Moved, moved-start, moved-more, moved-end}
+use Rattle.turns.proofs.Turns.{placeAt, clausesOf, behindOp, P, O, C, X, W, S, Says, Y, Z, pairTold, birthTold, top, join}
 use Rattle.turns.proofs.Turns.{told-as-it-is, noted-more, noted-over, kindsHere, message-at, left-aside, missed, passed, search-hit, search-over, run-searched, timeout-searched, unsought}
 use Rattle.turns.proofs.Turns.{Verdict, Committed, received, made, storedMail, storedFlight, stored-cells, sentAt, stored-run, stored-birth, stored-arrival}
 use Rattle.engine.proofs.core.Statement.{statement}

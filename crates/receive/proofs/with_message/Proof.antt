@@ -1,5 +1,4 @@
 -- `with_message` puts a value into r, and of a note or a down the sender into r, then the reason into s. Assumes nothing.
-use mathlib.Core.Path.{_∙_}
 use borrow.Author.Needs.{needs}
 use Rattle.receive.proofs.with_message.Statement.{statement}
 use Rattle.receive.proofs.with_message.Tie as tie
