@@ -25,6 +25,9 @@
 #define OPEN_CONTROLLER_ARRIVE 1
 #define OPEN_CONTROLLER_TIMEOUT 2
 
+/* Told by open_controller_consulted where one of the texts is refused or the process is not live at a recv. */
+#define OPEN_CONTROLLER_NOT_AT_RECV SIZE_MAX
+
 /*
  * Plays the steps text on the plan text and writes what the program prints into the first bytes of `out`: `load=number,line` where the
  * plan is refused, else `steps=number,line` where the steps text is, else `accepted=`, `refused=` and the listing.
@@ -57,5 +60,18 @@ size_t open_controller_write_plan(const uint8_t *behaviours_plan, size_t behavio
  * null. It needs less than 256 KB of stack.
  */
 size_t open_controller_suggest(const uint8_t *plan, size_t plan_length, const uint8_t *steps, size_t steps_length);
+
+/*
+ * Plays the steps text on the plan text, until a step is refused or to the end, and tells of a process that is then live at a recv how many
+ * clauses a search of its mailbox consults. The search first notes which kinds of message (int, atom, pid, note, down) its clauses can take at
+ * all: any takes every kind, a clause by kind that kind, an exact value the kind of the value. Noting is not consulting. For each message up to
+ * and with the one that fits, or for all if none fits, it then consults
+ *     no clause                                         where no clause can take the message's kind
+ *     the clauses in order up to the first that fits    else, that one counted, and all of them where none fits
+ * Returns their number, which is 0 to 128, and OPEN_CONTROLLER_NOT_AT_RECV in every other case: one of the texts is refused, `process` is not 1
+ * to 16, or the process is unborn, closing, gone, live at another op or live past the end of its code. It writes nothing. Any bytes may be
+ * given; a pointer must be valid for its length and not null. It needs less than 256 KB of stack.
+ */
+size_t open_controller_consulted(const uint8_t *plan, size_t plan_length, const uint8_t *steps, size_t steps_length, size_t process);
 
 #endif

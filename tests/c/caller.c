@@ -3,7 +3,9 @@
    and for the plan, OPEN_CONTROLLER_SHORT is told of a buffer that is one byte too short, and OPEN_CONTROLLER_UNSOUND of starts that the behaviours
    do not fit. A buffer into which nothing is to be written is left as it was. First acceptable steps, worked out by hand, are taken apart as
    the header says, and their kinds are OPEN_CONTROLLER_RUN, OPEN_CONTROLLER_ARRIVE and OPEN_CONTROLLER_TIMEOUT; OPEN_CONTROLLER_REFUSED is told
-   of a refused text. `caller FOLDER suggest` prints the number that the library returns for the first acceptable step of the folder. */
+   of a refused text. Numbers of clauses consulted are worked out by hand too; OPEN_CONTROLLER_NOT_AT_RECV is told in every other case.
+   `caller FOLDER suggest` prints the number that the library returns for the first acceptable step of the folder, and
+   `caller FOLDER consulted PROCESS...` for each process a line with the number that it returns for the clauses consulted. */
 #include <stdio.h>
 #include <stdlib.h>
 #include <string.h>
@@ -142,20 +144,88 @@ static void check_suggested(void)
         fail("two refused texts are not told as OPEN_CONTROLLER_REFUSED");
 }
 
-int main(int count, char **words)
-{
-    static uint8_t plan[16385], steps[61441], out[OPEN_CONTROLLER_OUTPUT], short_out[OPEN_CONTROLLER_OUTPUT];
-    size_t plan_length, steps_length, length;
+/* Process 1 has two recvs, one of an integer and a3, one of two integers, and a timeout leads from the first to the second; process 16 waits for a
+   note or any message; process 2 sends a7 to both. */
+static const char settled[] = "plan=1\nbehaviours=3\ncode=7\nop=recv,2\nop=clause,int,0,0,7\nop=clause,a3,0,0,7\nop=after,4\n"
+                              "op=recv,2\nop=clause,int,0,0,7\nop=clause,int,0,0,7\n"
+                              "code=5\nop=set,0,p1\nop=set,1,a7\nop=send,0,1\nop=set,0,p16\nop=send,0,1\n"
+                              "code=3\nop=recv,2\nop=clause,note,0,0,0\nop=clause,any,0,0,0\nstarts=3\nstart=1,1\nstart=2,2\nstart=16,3\n";
 
-    if (count != 2 && (count != 3 || strcmp(words[2], "suggest") != 0))
-        fail("usage: caller FOLDER [suggest]");
-    plan_length = read_text(words[1], "plan.txt", plan, sizeof plan);
-    steps_length = read_text(words[1], "steps.txt", steps, sizeof steps);
-    if (count == 3) {
-        if (printf("%zu\n", open_controller_suggest(plan, plan_length, steps, steps_length)) < 0 || fflush(stdout) != 0)
-            fail("cannot write");
-        return 0;
-    }
+static size_t consulted(const char *plan, const char *steps, size_t process)
+{
+    return open_controller_consulted((const uint8_t *)plan, strlen(plan), (const uint8_t *)steps, strlen(steps), process);
+}
+
+/* The searches of the sample and of `settled`, whose messages arrive. */
+static void check_consulted(void)
+{
+    const char *sent = "run=1\nrun=1\nrun=1\narrive=2,1\n", *arrived = "run=2\nrun=2\nrun=2\narrive=1,2\n";
+    const char *given_up = "run=2\nrun=2\nrun=2\narrive=1,2\ntimeout=1\n", *refused = "run=2\nrun=2\nrun=2\nrun=3\narrive=1,2\n";
+    const char *both = "run=2\nrun=2\nrun=2\nrun=2\nrun=2\narrive=16,2\n";
+
+    if (consulted(sample, "", 2) != 0 || consulted(sample, sent, 2) != 1)
+        fail("the sample's process 2 does not consult 0 clauses for no message and 1 for i12");
+    if (consulted(settled, arrived, 1) != 2)
+        fail("the clauses int and a3 are not both consulted for a7");
+    if (consulted(settled, given_up, 1) != 0)
+        fail("a clause of two that take integers is consulted for a7");
+    if (consulted(settled, refused, 1) != 0)
+        fail("a message behind a refused step is searched");
+    if (consulted(settled, arrived, 16) != 0 || consulted(settled, both, 16) != 2)
+        fail("process 16 does not consult 0 clauses for no message, and note and any for a7");
+}
+
+static void check_not_at_recv(const char *plan, const char *steps, size_t process, const char *what)
+{
+    if (consulted(plan, steps, process) != OPEN_CONTROLLER_NOT_AT_RECV)
+        fail(what);
+}
+
+/* Every case in which there is no search. */
+static void check_not_consulted(void)
+{
+    if (OPEN_CONTROLLER_NOT_AT_RECV != SIZE_MAX || OPEN_CONTROLLER_NOT_AT_RECV != (size_t)-1)
+        fail("OPEN_CONTROLLER_NOT_AT_RECV has another value");
+    check_not_at_recv(sample, "", 1, "a process at a set is not told as OPEN_CONTROLLER_NOT_AT_RECV");
+    check_not_at_recv(sample, "run=1\nrun=1\nrun=1\n", 1, "a process past its code is not told as OPEN_CONTROLLER_NOT_AT_RECV");
+    check_not_at_recv(sample, "run=1\nrun=1\nrun=1\nrun=1\n", 1, "a closing process is not told as OPEN_CONTROLLER_NOT_AT_RECV");
+    check_not_at_recv(sample, "run=1\nrun=1\nrun=1\nrun=1\nrun=1\n", 1, "a gone process is not told as OPEN_CONTROLLER_NOT_AT_RECV");
+    check_not_at_recv(sample, "", 3, "an unborn process is not told as OPEN_CONTROLLER_NOT_AT_RECV");
+    check_not_at_recv(settled, "", 0, "process 0 is not told as OPEN_CONTROLLER_NOT_AT_RECV");
+    check_not_at_recv(settled, "", 17, "process 17 is not told as OPEN_CONTROLLER_NOT_AT_RECV");
+    check_not_at_recv(settled, "", 257, "process 257 is not told as OPEN_CONTROLLER_NOT_AT_RECV");
+    check_not_at_recv(settled, "", SIZE_MAX, "the largest number is not told as OPEN_CONTROLLER_NOT_AT_RECV");
+    check_not_at_recv("plan=1\n", "", 1, "a refused plan is not told as OPEN_CONTROLLER_NOT_AT_RECV");
+    check_not_at_recv(settled, "run=1", 1, "a refused steps text is not told as OPEN_CONTROLLER_NOT_AT_RECV");
+    check_not_at_recv("", "run=1", 1, "two refused texts are not told as OPEN_CONTROLLER_NOT_AT_RECV");
+}
+
+/* What is in a folder. */
+static uint8_t plan[16385], steps[61441];
+static size_t plan_length, steps_length;
+
+static void print_number(size_t number)
+{
+    if (printf("%zu\n", number) < 0 || fflush(stdout) != 0)
+        fail("cannot write");
+}
+
+static void print_consulted(const char *word)
+{
+    char *end;
+    unsigned long long process = strtoull(word, &end, 10);
+
+    if (word[0] < '0' || word[0] > '9' || *end != '\0')
+        fail("PROCESS is a number");
+    print_number(open_controller_consulted(plan, plan_length, steps, steps_length, (size_t)process));
+}
+
+/* Plays the folder, checks all that is told on the way and prints the answer. */
+static void print_answer(void)
+{
+    static uint8_t out[OPEN_CONTROLLER_OUTPUT], short_out[OPEN_CONTROLLER_OUTPUT];
+    size_t length;
+
     memset(out, UNTOUCHED, sizeof out);
     length = open_controller_simulate(plan, plan_length, steps, steps_length, out, OPEN_CONTROLLER_OUTPUT);
     if (length == OPEN_CONTROLLER_SHORT || length > sizeof out)
@@ -168,7 +238,28 @@ int main(int count, char **words)
     check_written_back(plan, plan_length);
     check_turned_down();
     check_suggested();
+    check_consulted();
+    check_not_consulted();
     if (fwrite(out, 1, length, stdout) != length || fflush(stdout) != 0)
         fail("cannot write");
+}
+
+int main(int count, char **words)
+{
+    int k;
+
+    if (count < 2)
+        fail("usage: caller FOLDER [suggest | consulted PROCESS...]");
+    plan_length = read_text(words[1], "plan.txt", plan, sizeof plan);
+    steps_length = read_text(words[1], "steps.txt", steps, sizeof steps);
+    if (count == 2)
+        print_answer();
+    else if (count == 3 && strcmp(words[2], "suggest") == 0)
+        print_number(open_controller_suggest(plan, plan_length, steps, steps_length));
+    else if (count > 3 && strcmp(words[2], "consulted") == 0)
+        for (k = 3; k < count; k++)
+            print_consulted(words[k]);
+    else
+        fail("usage: caller FOLDER [suggest | consulted PROCESS...]");
     return 0;
 }

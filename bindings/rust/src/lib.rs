@@ -20,6 +20,14 @@ extern "C" {
     ) -> usize;
 
     fn open_controller_suggest(plan: *const u8, plan_length: usize, steps: *const u8, steps_length: usize) -> usize;
+
+    fn open_controller_consulted(
+        plan: *const u8,
+        plan_length: usize,
+        steps: *const u8,
+        steps_length: usize,
+        process: usize,
+    ) -> usize;
 }
 
 /// What the calls that write answer for refusals 30 and 31.
@@ -122,6 +130,22 @@ fn step_of(number: usize) -> Step {
         (TIMEOUT, 0) => Step::Timeout { owner },
         // The contract of open_controller_suggest, proved in crates/controller_c, has no other number.
         _ => unreachable!("open_controller_suggest answered {number}, which is no step"),
+    }
+}
+
+/// What `consulted` is answered where one of the texts is refused or the process is not live at a recv.
+const NOT_AT_RECV: usize = usize::MAX;
+
+/// How many clauses a search of a process's mailbox consults once the steps text is played on the plan text, until a step is refused or to the
+/// end. The search first notes which kinds of message its clauses can take; for a message of another kind it consults none, for each of the
+/// others up to and with the one that fits its clauses in order up to the first that fits, or all. None where one of the texts is refused, no
+/// process has that number, or it is not live at a recv.
+pub fn consulted(plan: &[u8], steps: &[u8], process: usize) -> Option<usize> {
+    // A slice's pointer is valid for its length and never null.
+    let answer = unsafe { open_controller_consulted(plan.as_ptr(), plan.len(), steps.as_ptr(), steps.len(), process) };
+    match answer {
+        NOT_AT_RECV => None,
+        clauses => Some(clauses),
     }
 }
 

@@ -1,10 +1,12 @@
-//! Compares the bytes of the proved library, plans written back among them, and of the built program, and the first acceptable step that the
-//! library tells, with those of the second interpreter: `compare PROGRAM SEED LIBRARY_CASES PROGRAM_CASES`. Prints what the cases reached, and
-//! fails at the first difference or where something that documents 01 and 02 name was reached by no case.
+//! Compares the bytes of the proved library, plans written back among them, and of the built program, the first acceptable step and the numbers of
+//! clauses consulted that the library tells, with those of the second interpreter: `compare PROGRAM SEED LIBRARY_CASES PROGRAM_CASES`. Prints what
+//! the cases reached, and fails at the first difference or where something that documents 01 and 02 name was reached by no case.
 
+mod consulting;
 mod suggesting;
 mod writing;
 
+use consulting::Consulting;
 use second::Coverage;
 use std::fs::{self, File as Open};
 use std::io::Write;
@@ -179,9 +181,11 @@ struct Counts {
     coverage: Coverage,
     writing: Writing,
     suggesting: Suggesting,
+    consulting: Consulting,
 }
 
-/// The cases of the generator, played, written back and asked for their first acceptable step by the library.
+/// The cases of the generator, played, written back and asked for their first acceptable step and for the clauses that searches consult by the
+/// library.
 fn compare_library(seed: u64, cases: u64, counts: &mut Counts) {
     for k in 0..cases {
         let (plan, steps) = second::case(seed, k);
@@ -195,12 +199,13 @@ fn compare_library(seed: u64, cases: u64, counts: &mut Counts) {
         }
         counts.writing.compare(k, &plan, !expected.starts_with(b"load="));
         counts.suggesting.compare(k, &plan, &steps);
+        counts.consulting.compare(k, &plan, &steps);
     }
     comes_back(&second::longest(), true);
 }
 
-/// Nearly full nodes, listed by the library and the program, their plans written back and their first acceptable steps asked for; answers the
-/// length of the longest answer.
+/// Nearly full nodes, listed by the library and the program, their plans written back, their first acceptable steps and the clauses that their
+/// searches consult asked for; answers the length of the longest answer.
 fn compare_full(seed: u64, program: &Path, folder: &Path) -> usize {
     let mut longest = 0;
     for k in 0..FULL_CASES {
@@ -213,6 +218,7 @@ fn compare_full(seed: u64, program: &Path, folder: &Path) -> usize {
         check_room(&plan, &steps, &expected);
         comes_back(&plan, true);
         suggesting::check(&plan, &steps, Ok(second::suggest(&plan, &steps).expect("two accepted texts")));
+        consulting::check_all(&plan, &steps);
         longest = longest.max(run_program(&mut Command::new(program), folder, &File::Bytes(plan), &File::Bytes(steps)).len());
     }
     assert!(longest >= 30_000, "the longest answer of the program has {longest} bytes");
@@ -230,7 +236,7 @@ fn main() {
     let library_cases: u64 = library_cases.parse().expect("a number");
     let program_cases: u64 = program_cases.parse().expect("a number");
 
-    let mut counts = Counts { coverage: Coverage::new(), writing: Writing::default(), suggesting: Suggesting::new() };
+    let mut counts = Counts { coverage: Coverage::new(), writing: Writing::default(), suggesting: Suggesting::new(), consulting: Consulting::new() };
     compare_library(seed, library_cases, &mut counts);
     let folder = std::env::temp_dir().join(format!("open_controller-{}", std::process::id()));
     fs::create_dir_all(&folder).unwrap();
@@ -242,13 +248,13 @@ fn main() {
     check_full_output(&program, &folder);
     let files = special_files(&program, &folder);
     fs::remove_dir_all(&folder).unwrap();
-    let Counts { coverage, writing, suggesting } = counts;
-    print!("{coverage}{writing}{suggesting}");
+    let Counts { coverage, writing, suggesting, consulting } = counts;
+    print!("{coverage}{writing}{suggesting}{consulting}");
     println!(
         "seed {seed}: the library agrees on {library_cases} cases, the program on {program_cases} cases and {files} pairs of files, \
          both on {FULL_CASES} nearly full nodes (at most {longest} bytes)"
     );
-    let missing = [coverage.rarer_than(1), writing.missing(), suggesting.missing()].concat();
+    let missing = [coverage.rarer_than(1), writing.missing(), suggesting.missing(), consulting.missing()].concat();
     if !missing.is_empty() {
         println!("reached by no case: {}", missing.join("; "));
         exit(1);

@@ -1,9 +1,10 @@
-//! A second interpreter of document 01 (the open garage node) and of requests M-100 to M-105 of
+//! A second interpreter of document 01 (the open garage node) and of requests M-100 to M-106 of
 //! document 02, with a seeded generator of cases. It shares no code and no tables with the proved
 //! crates, so that the two can be compared.
 
 pub mod arguments;
 pub mod cases;
+pub mod consult;
 pub mod coverage;
 pub mod listing;
 pub mod node;
@@ -19,6 +20,8 @@ pub mod writer;
 pub use cases::case;
 pub use cases::full::full;
 pub use cases::longest::longest;
+pub use cases::mail::mail;
+pub use consult::consulted;
 pub use coverage::Coverage;
 pub use offer::suggest;
 pub use writer::write_plan;

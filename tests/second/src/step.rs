@@ -408,7 +408,7 @@ fn search(node: &Node, process: u8, count: usize) -> Search {
 
 /// "k is any (notes too), int, atom, pid, note or one exact V (values only)"; "24 and recv treat it
 /// [a down] like a note, its kind being `down`"
-fn fits(pattern: Pattern, message: &Message) -> bool {
+pub fn fits(pattern: Pattern, message: &Message) -> bool {
     match (pattern, message) {
         (Pattern::Any, _) => true,
         (Pattern::Note, Message::Note { .. }) => true,

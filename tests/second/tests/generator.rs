@@ -1,9 +1,10 @@
 //! The generator and the checks that run on its cases.
 
 use second::cases::{damage, plans, schedules};
+use second::node::{MAILBOX_LIMIT, PROCESSES};
 use second::plan::{self, OPERANDS};
 use second::random::Random;
-use second::{case, full, reorder, simulate, simulate_counted, steps, Coverage};
+use second::{case, full, mail, reorder, simulate, simulate_counted, steps, Coverage};
 
 fn drafted(k: u64) -> (Random, plans::Draft) {
     let mut random = Random::new(77, k);
@@ -113,4 +114,22 @@ fn full_nodes_have_long_listings() {
             assert!(out.matches(empty).count() <= 8, "case {k}: {empty}");
         }
     }
+}
+
+#[test]
+fn mail_waits_at_a_recv() {
+    let (mut waiting, mut full) = (0, 0);
+    for k in 0..400 {
+        let (plan, steps) = mail(21, k);
+        let mut node = plan::load(&plan).expect("an accepted plan");
+        let schedule = steps::read(&steps).expect("accepted steps");
+        second::play(&mut node, &schedule, None);
+        let waits = |process: &u8| second::step::awaited(&node, *process).is_some();
+        if let Some(listener) = (1..=PROCESSES).find(waits) {
+            waiting += 1;
+            full += u32::from(node.live(listener).mailbox.len() == MAILBOX_LIMIT);
+        }
+    }
+    assert!(waiting > 250, "only {waiting}");
+    assert!(full > 75, "only {full}");
 }

@@ -1,4 +1,5 @@
-//! Writes case number K of seed S as plan.txt and steps.txt into a folder: `cases S K FOLDER`; a nearly full node: `cases full S K FOLDER`.
+//! Writes case number K of seed S as plan.txt and steps.txt into a folder: `cases S K FOLDER`; a nearly full node: `cases full S K FOLDER`; a process
+//! with mail that waits: `cases mail S K FOLDER`.
 
 use std::path::Path;
 
@@ -13,10 +14,11 @@ fn main() {
 fn write_case(arguments: &[String]) -> Result<(), String> {
     let (make, arguments): (fn(u64, u64) -> (Vec<u8>, Vec<u8>), _) = match arguments.split_first() {
         Some((word, rest)) if word == "full" => (second::full, rest),
+        Some((word, rest)) if word == "mail" => (second::mail, rest),
         _ => (second::case, arguments),
     };
     let [seed, k, folder] = arguments else {
-        return Err("usage: cases [full] SEED NUMBER FOLDER".to_string());
+        return Err("usage: cases [full | mail] SEED NUMBER FOLDER".to_string());
     };
     let seed: u64 = seed.parse().map_err(|_| format!("no seed: {seed}"))?;
     let k: u64 = k.parse().map_err(|_| format!("no case number: {k}"))?;

@@ -1,32 +1,45 @@
 //! The program of document 01: reads plan.txt and steps.txt in the current folder and prints what
-//! the second interpreter says. `second suggest` prints the number of the first acceptable step.
+//! the second interpreter says. `second suggest` prints the number of the first acceptable step,
+//! `second consulted PROCESS...` for each process a line with the number of clauses consulted.
 
-use second::offer;
+use second::{consult, offer};
 use std::fs::File;
 use std::io::{Read, Write};
 
 fn main() {
     let words: Vec<String> = std::env::args().skip(1).collect();
     let words: Vec<&str> = words.iter().map(String::as_str).collect();
-    let answer: fn(&[u8], &[u8]) -> Vec<u8> = match words[..] {
-        [] => second::simulate,
-        ["suggest"] => first_step,
-        _ => {
-            eprintln!("usage: second [suggest]");
-            std::process::exit(2);
-        }
-    };
     let plan = read_up_to("plan.txt", second::plan::BYTE_LIMIT);
     let steps = read_up_to("steps.txt", second::steps::BYTE_LIMIT);
-    if let Err(error) = std::io::stdout().write_all(&answer(&plan, &steps)) {
+    let Some(answer) = answer(&words, &plan, &steps) else {
+        eprintln!("usage: second [suggest | consulted PROCESS...]");
+        std::process::exit(2);
+    };
+    if let Err(error) = std::io::stdout().write_all(&answer) {
         eprintln!("second: cannot write: {error}");
         std::process::exit(1);
     }
 }
 
-/// A line with the number that the library answers a C caller.
-fn first_step(plan: &[u8], steps: &[u8]) -> Vec<u8> {
-    let number = offer::number(second::suggest(plan, steps));
+/// What is printed for these words and texts; None where the words are no command.
+fn answer(words: &[&str], plan: &[u8], steps: &[u8]) -> Option<Vec<u8>> {
+    match words {
+        [] => Some(second::simulate(plan, steps)),
+        ["suggest"] => Some(line(offer::number(second::suggest(plan, steps)))),
+        ["consulted", processes @ ..] if !processes.is_empty() => {
+            let mut lines = Vec::new();
+            for process in processes {
+                let consulted = second::consulted(plan, steps, process.parse().ok()?);
+                lines.extend(line(consult::number(consulted)));
+            }
+            Some(lines)
+        }
+        _ => None,
+    }
+}
+
+/// A line with a number that the library answers a C caller.
+fn line(number: usize) -> Vec<u8> {
     format!("{number}\n").into_bytes()
 }
 

@@ -3,6 +3,7 @@
 pub mod damage;
 pub mod full;
 pub mod longest;
+pub mod mail;
 pub mod plans;
 pub mod schedules;
 
@@ -13,11 +14,12 @@ use schedules::{Goal, Obstacle};
 /// Case number k of a seed: plan text and steps text, the same on every call.
 pub fn case(seed: u64, k: u64) -> (Vec<u8>, Vec<u8>) {
     let mut random = Random::new(seed, k);
-    match random.weighted(&[62, 21, 9, 3, 5]) {
+    match random.weighted(&[57, 5, 21, 9, 3, 5]) {
         0 => played(&mut random),
-        1 => with_bad_plan(&mut random),
-        2 => with_bad_steps(&mut random),
-        3 => at_a_limit(&mut random),
+        1 => mail::drawn(&mut random),
+        2 => with_bad_plan(&mut random),
+        3 => with_bad_steps(&mut random),
+        4 => at_a_limit(&mut random),
         _ => with_changed_bytes(&mut random),
     }
 }
