@@ -15,9 +15,9 @@ const GRAIN: usize = 16;
 /// The thread of a trial has at most so many kilobytes of stack.
 const MOST: usize = 4096;
 
-const CALLS: [&str; 5] = ["simulate", "suggest", "play", "play_steps", "step"];
+const CALLS: [&str; 6] = ["simulate", "suggest", "consulted", "play", "play_steps", "step"];
 
-/// One call on the longest plan and 4,096 steps; tells whether its answer is right.
+/// One call on the longest plan and 4,096 steps, or on processes that wait; tells whether its answer is right.
 fn call(name: &str) -> bool {
     let case = inputs::longest(4096);
     let mut out = vec![0; open_controller::OUTPUT];
@@ -28,6 +28,7 @@ fn call(name: &str) -> bool {
         }
         // Process 1 circles in three ops, each of which is always accepted.
         "suggest" => open_controller::suggest(&case.plan, &case.steps) == Ok(Some(Step::Run { owner: 1 })),
+        "consulted" => open_controller::consulted(&inputs::stuck().plan, &case.steps, 1) == Some(0),
         "play" => proved::play(&case, 1) == 4096,
         "play_steps" => proved::play_steps(&case, 1) == 4096,
         "step" => proved::step(&case, 1) == 4096,
@@ -83,8 +84,9 @@ fn most_memory(name: &str) -> usize {
 
 pub fn tables(bars: &mut Bars) {
     println!("## Memory and stack\n");
-    println!("On the longest plan and 4,096 steps. The memory is the most that a process had (VmHWM) that makes one call; `none` makes no");
-    println!("call. The stack is the least of a thread, to {GRAIN} KB, in which the call gives its answer, with what the thread itself needs.\n");
+    println!("On the longest plan and 4,096 steps; `consulted` on processes that wait, since those of the longest plan do not. The memory is the most");
+    println!("that a process had (VmHWM) that makes one call; `none` makes no call. The stack is the least of a thread, to {GRAIN} KB, in which the call");
+    println!("gives its answer, with what the thread itself needs.\n");
     println!("| call | most memory, KB | least stack, KB |");
     println!("|---|---|---|");
     for name in ["none"].into_iter().chain(CALLS) {

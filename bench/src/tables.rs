@@ -53,7 +53,7 @@ pub fn bars(times: &Times) {
     for mix in ["ring", "links", "watch", "mail-first", "local"] {
         ratio_row(&format!("`play`, {mix}, a further step"), &NANOSECONDS, further(times, mix), 1.6, "1.25");
     }
-    ratio_row("`play`, mail-last, a further step", &NANOSECONDS, further(times, "mail-last"), 0.9, "0.35, by M-106");
+    ratio_row("`play`, mail-last, a further step", &NANOSECONDS, further(times, "mail-last"), 0.5, "0.35");
     for node in ["small", "ring", "longest plan", "nearly full"] {
         ratio_row(&format!("`sound`, {node}"), &MICROSECONDS, time(times, &format!("sound {node}")), 2.5, "1.5");
     }
