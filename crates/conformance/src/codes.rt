@@ -62,7 +62,7 @@ pub(crate) fn with_target(number: u8, target: u8) -> Op {
     o
 }
 
-fn with_value(number: u8, small: u8, value: Value) -> Op {
+pub(crate) fn with_value(number: u8, small: u8, value: Value) -> Op {
     Op {
         number,
         r: 0,

@@ -2,6 +2,7 @@
 // stdout was worked out from documents 01 and 02 by hand.
 mod calls;
 mod codes;
+mod counts;
 mod full;
 mod holds;
 mod limits;
@@ -26,6 +27,7 @@ fn main() {
     watches::all();
     timeouts::all();
     receives::all();
+    counts::all();
     calls::all();
     offers::all();
     plays::all();

@@ -1,4 +1,5 @@
 // A node that is not sound: what each call says of it. The node is given whole, or as the part that is put anew.
+use super::counts;
 use super::parts;
 use super::show;
 use engine::Suggestion;
@@ -15,6 +16,7 @@ pub(crate) fn whole(name: &[u8], n: Node) {
     show::run(n);
     step_run(n);
     suggestion(n);
+    counts::consulted(n, 1);
     show::listed(n);
 }
 

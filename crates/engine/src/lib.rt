@@ -190,6 +190,7 @@ fn core(n: Node, numbers: &[u32], looks: bool) -> Played
             let count = up_to(waiting, 16);
             let top = first + count;
             let end = clauses_end(x, op.small);
+            // The kinds of message that the clauses can take at all.
             let mut noted = Kinds::none();
             let mut d = x + 1;
             while d < end {
@@ -227,6 +228,7 @@ fn core(n: Node, numbers: &[u32], looks: bool) -> Played
                     if looks {
                         return ended(t, 0, node);
                     }
+                    // Nothing is sent and nobody is brought to life: the message leaves, and the step is over.
                     node.processes[k] = receive::after_search(p, found);
                     node.waiting[k] = fallen(waiting);
                     let mut m = first + receive::fit_index(found, count);
