@@ -1,4 +1,6 @@
 // A step as one number: its action, and where its parts stand in a node; and the numbers of all possible steps.
+#![tactic(auto)]
+
 ghost use Rattle.std.specs.Prelude.{true, false, cond, ◌≡◌, ◌<◌, eqb};
 ghost use Rattle.rules.specs.Steps.{record_of};
 ghost use Rattle.rules.specs.Suggest.{at_turn};
@@ -9,7 +11,7 @@ use node::{BehaviourNumber, ProcessNumber, Step, fallen, is_number};
 
 // What the number of a step says: whether a process number in it is none (20), whether it is an arrival or a timeout, whose it is, from whom,
 // and where the owner's process and the row stand.
-#[derive(Drop)]
+#[derive(Clone, Copy)]
 pub struct Decoded {
     pub bad: bool,
     pub arrives: bool,

@@ -1,4 +1,6 @@
 // Behaviours by the plan's rules: 12, each operand in range, and 14, clauses, `after` and targets where they belong.
+#![tactic(auto)]
+
 ghost use Rattle.std.specs.Prelude.{◌&&◌, cond, ◌≡◌, eqb, leb};
 ghost use Rattle.node.specs.Lists.{all_of};
 ghost use Rattle.node.specs.Values.{exact_kind, int_zero, is_number, last_kind, value_sound};

@@ -1,4 +1,6 @@
 // Calls for the benchmark: each does one piece of the controller's work a number of times, so that a caller can time it.
+#![tactic(auto)]
+
 ghost use Rattle.std.specs.Prelude.{◌≡◌};
 ghost use Rattle.listing.specs.Answers.{list_told, list_shown};
 ghost use Rattle.plan.specs.Plans.{load_of};

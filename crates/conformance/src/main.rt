@@ -1,5 +1,7 @@
 // Cases that are no folders of tests/cases: nodes made by hand, calls that the program does not make, and texts at their limits. The file
 // stdout was worked out from documents 01 and 02 by hand.
+#![tactic(auto)]
+
 mod calls;
 mod codes;
 mod counts;

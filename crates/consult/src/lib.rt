@@ -1,4 +1,6 @@
 // How many clauses a search of a process's mailbox consults.
+#![tactic(auto)]
+
 ghost use Rattle.std.specs.Prelude.{◌≡◌};
 ghost use Rattle.rules.specs.Consult.{consultation};
 ghost use Rattle.rules.specs.Nodes.{Sound};
@@ -8,7 +10,7 @@ use actions::{behaviour_index, op_index};
 use node::Node;
 
 // How many clauses are consulted; Elsewhere where the process is not live at a recv; Unsound is refusal 31.
-#[derive(Drop)]
+#[derive(Clone, Copy)]
 pub enum Consulted {
     Unsound,
     Elsewhere,

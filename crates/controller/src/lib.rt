@@ -1,4 +1,6 @@
 // The controller: a play and its listing in one call, and the program's bytes from a plan text and a steps text.
+#![tactic(auto)]
+
 ghost use Rattle.std.specs.Prelude.{map, ◌≡◌};
 ghost use Rattle.actions.specs.Numbers.{action_of};
 ghost use Rattle.engine.specs.Answers.{played_of};
@@ -13,7 +15,7 @@ use node::{NOT_SOUND, Node, OUTPUT_SHORT};
 use text::{put_byte, put_bytes, put_number, put_number_line};
 
 // What `play_and_list` tells: how many steps were accepted, the refusal or 0, the length of the listing, and the node then.
-#[derive(Drop)]
+#[derive(Clone, Copy)]
 pub struct PlayedListed {
     pub accepted: usize,
     pub refusal: u8,
@@ -22,7 +24,7 @@ pub struct PlayedListed {
 }
 
 // What `simulate` tells: 30 and length 0, or 0 and the length of what it wrote.
-#[derive(Drop)]
+#[derive(Clone, Copy)]
 pub struct Simulated {
     pub number: u8,
     pub length: usize,

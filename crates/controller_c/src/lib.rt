@@ -1,4 +1,6 @@
 // The controller for C and Rust programs: include/open_controller.h declares what is exported here.
+#![tactic(auto)]
+
 ghost use Rattle.std.specs.Prelude.{◌≡◌};
 ghost use Rattle.consult.specs.Answers.{consulted_of};
 ghost use Rattle.engine.specs.Answers.{suggestion_of};
@@ -28,7 +30,7 @@ const REFUSED: usize = 18446744073709551615;
 const NOT_AT_RECV: usize = 18446744073709551615;
 
 // The node behind the steps of a text, played on a plan text until one is refused; or that one of the texts is refused.
-#[derive(Drop)]
+#[derive(Clone, Copy)]
 struct Reached {
     node: Node,
     refused: bool,

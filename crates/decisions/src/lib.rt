@@ -1,4 +1,6 @@
 // The local decision of a step: what a process does at a run, at an arrival or at a timeout, from small values alone.
+#![tactic(auto)]
+
 ghost use Rattle.std.specs.Prelude.{◌≡◌, false, not, ◌&&◌, ℕ, eqb, ◌+ℤ◌};
 ghost use Rattle.node.specs.declared.Signal.TheVariants.{Msg, Exit, Link, Unlink, Monitor, Demonitor};
 ghost use Rattle.node.specs.Processes.{register, moved, advanced, trapped, linked, unlinked, watching, unwatching, ended};
@@ -21,7 +23,7 @@ use node::{
 
 // What a process decides on: a refusal (0 if none), and otherwise its next self, and what becomes of its mailbox, what it sends and
 // whom it brings to life, each where its flag is set.
-#[derive(Drop)]
+#[derive(Clone, Copy)]
 pub struct Decision {
     pub refusal: u8,
     pub process: Process,
@@ -241,7 +243,7 @@ fn run_self(i: ProcessNumber, p: Process, op: Op) -> Decision
 }
 
 // The sum of two integers, where it is an integer too.
-#[derive(Drop)]
+#[derive(Clone, Copy)]
 struct Sum {
     fits: bool,
     total: Value,
@@ -284,7 +286,7 @@ fn add(p: Process, r: u8, x: i32, y: i32) -> Decision
 }
 
 // Two values, where both are integers.
-#[derive(Drop)]
+#[derive(Clone, Copy)]
 enum Pair {
     Not,
     Both(i32, i32),

@@ -1,5 +1,7 @@
 // The engine: a step, a schedule, and what to do next. One loop keeps the node in one local, reads and stores in place, and decides on small
 // values; it plays steps, or looks which of them would be accepted.
+#![tactic(auto)]
+
 ghost use Rattle.std.specs.Prelude.{true, false, map, ◌≡◌, ◌<◌, ◌+◌, ◌*◌, min};
 ghost use Rattle.actions.specs.Numbers.{action_of};
 ghost use Rattle.rules.specs.Answers.{done};
@@ -17,21 +19,21 @@ use receive::{Found, Kinds};
 
 // What a play tells: how many steps were accepted, the refusal that ended it (0 if none), and the node then. The node stands first: with
 // no gap before it, the compiler leaves out copies of it.
-#[derive(Drop)]
+#[derive(Clone, Copy)]
 pub struct Played {
     pub node: Node,
     pub refusal: u8,
     pub accepted: usize,
 }
 
-#[derive(Drop)]
+#[derive(Clone, Copy)]
 pub struct Stepped {
     pub node: Node,
     pub refusal: u8,
 }
 
 // The first step that would be accepted, or none where no step would be; Unsound is refusal 31.
-#[derive(Drop)]
+#[derive(Clone, Copy)]
 pub enum Suggestion {
     Unsound,
     Next(Step),

@@ -1,4 +1,6 @@
 // Reading a file into a lent buffer.
+#![tactic(auto)]
+
 ghost use Rattle.std.specs.Prelude.{◌≤◌, length};
 
 // The file's first bytes, as far as the buffer reaches; a file that can't be opened, or of which a read fails, counts as empty. No

@@ -1,5 +1,7 @@
 // The listing of a node, written into a lent buffer.
 // Run over an empty slice its writers count, so a listing is counted before a buffer that may be too short is touched.
+#![tactic(auto)]
+
 ghost use Rattle.std.specs.Prelude.{cond, ◌≡◌, ltb};
 ghost use Rattle.node.specs.Mailboxes.{no_message};
 ghost use Rattle.node.specs.Rows.{no_signal};
@@ -14,7 +16,7 @@ use node::{Cell, Message, NOT_SOUND, Node, OUTPUT_SHORT, ProcessNumber, Signal, 
 const LONGEST: usize = 41792;
 
 // The refusal, 30 or 31, or 0 and the listing's length. With a refusal the length is 0.
-#[derive(Drop)]
+#[derive(Clone, Copy)]
 pub struct Listed {
     pub number: u8,
     pub length: usize,

@@ -1,5 +1,7 @@
 // The lines of the listing, written into a lent buffer: each writer below writes one piece of its grammar.
 // Run over an empty slice a writer counts.
+#![tactic(auto)]
+
 ghost use Rattle.std.specs.Prelude.{cond, [], ◌∷◌, ◌++◌, ◌≡◌};
 ghost use Rattle.rules.specs.Nodes.{set_of, running, live, closing, gone, standing};
 ghost use Rattle.node.specs.Values.{numbers};

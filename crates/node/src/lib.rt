@@ -1,4 +1,6 @@
 // The types of a node, the constructors of fresh processes and of the blank node, what a step makes of a record, and the tables of ops.
+#![tactic(auto)]
+
 ghost use Rattle.std.specs.Prelude.{◌&&◌, [], ◌∷◌, ◌≡◌, ◌+◌, ◌-◌, ◌<◌, min, leb, get_or};
 ghost use Rattle.node.specs.declared.OperandKind.TheVariants.{NoOperand};
 ghost use Rattle.node.specs.Ops.{is_part, kinds_in, kinds_of, operand_counts, operand_kind, stop_op};
@@ -13,15 +15,15 @@ ghost use Rattle.node.specs.Nodes.{blank_node, no_op};
 ghost use Rattle.node.specs.Starts.{node_behaviours, node_starts, row_of, row_with, start_of};
 
 // A process number (process identifier), 1 to 16.
-#[derive(Drop)]
+#[derive(Clone, Copy)]
 pub struct ProcessNumber(pub u8);
 
 // A behaviour number, 1 to 8. A behaviour is the code that a process runs.
-#[derive(Drop)]
+#[derive(Clone, Copy)]
 pub struct BehaviourNumber(pub u8);
 
 // A value: an integer `i`, an atom `a` or a process number `p`. The types i32 and u8 hold just the limits of `i` and of `a`.
-#[derive(Drop)]
+#[derive(Clone, Copy)]
 pub enum Value {
     Int(i32),
     Atom(u8),
@@ -66,7 +68,7 @@ impl Value {
 }
 
 // A message in a mailbox: a plain value, or, with its sender and the exit reason, a note (the field's 'EXIT' message) or a down (its 'DOWN').
-#[derive(Drop)]
+#[derive(Clone, Copy)]
 pub enum Message {
     Plain(Value),
     Note(ProcessNumber, Value),
@@ -86,7 +88,7 @@ impl Message {
 }
 
 // A signal in flight. The bool of an exit signal says that it was sent along a link.
-#[derive(Drop)]
+#[derive(Clone, Copy)]
 pub enum Signal {
     Msg(Value),
     Exit(Value, bool),
@@ -99,7 +101,7 @@ pub enum Signal {
 
 // An op (instruction) by its number in document 01's table; the fields that it does not have as operands are not read. The value stands
 // last, so that an op takes 16 bytes and not 20.
-#[derive(Drop)]
+#[derive(Clone, Copy)]
 pub struct Op {
     pub number: u8,
     pub r: u8,
@@ -114,7 +116,7 @@ pub struct Op {
 
 // What an operand is, with document 01's letter for it: a register, a value, a place, a behaviour number, a process number, a flag, a count of
 // clauses, a clause's kind.
-#[derive(Drop)]
+#[derive(Clone, Copy)]
 pub enum OperandKind {
     NoOperand,
     RegisterR,
@@ -129,7 +131,7 @@ pub enum OperandKind {
 }
 
 // What operands an op has, in their order; ops with the same operands share a shape.
-#[derive(Drop)]
+#[derive(Clone, Copy)]
 pub enum Shape {
     Nothing,
     R,
@@ -145,11 +147,11 @@ pub enum Shape {
 }
 
 // A set of processes as one number: process k + 1 is in it where bit k is set.
-#[derive(Drop)]
+#[derive(Clone, Copy)]
 pub struct Peers(pub u16);
 
 // Closing is an exiting process that has still to tell its links and its watchers.
-#[derive(Drop)]
+#[derive(Clone, Copy)]
 pub enum Stage {
     Unborn,
     Live,
@@ -158,7 +160,7 @@ pub enum Stage {
 }
 
 // A process. What its stage does not hold is not read.
-#[derive(Drop)]
+#[derive(Clone, Copy)]
 pub struct Process {
     pub stage: Stage,
     pub behaviour: BehaviourNumber,
@@ -177,12 +179,12 @@ pub struct Process {
     pub reason: Value,
 }
 
-#[derive(Drop)]
+#[derive(Clone, Copy)]
 pub struct Slot {
     pub message: Message,
 }
 
-#[derive(Drop)]
+#[derive(Clone, Copy)]
 pub struct Cell {
     pub signal: Signal,
 }
@@ -191,7 +193,7 @@ pub struct Cell {
 // rows are flat, so that a step stores single elements: of process i the first `waiting[i - 1]` slots from `slots[16 * (i - 1)]` on hold
 // the messages, in order of arrival; of the pair from j to i, k being 16 * (j - 1) + (i - 1), the first `counts[k]` cells from
 // `cells[4 * k]` on hold the signals, the oldest first.
-#[derive(Drop)]
+#[derive(Clone, Copy)]
 pub struct Node {
     pub count: u8,
     pub lens: [u8; 8],
@@ -204,7 +206,7 @@ pub struct Node {
 }
 
 // Behaviours as a node holds them: behaviour b (of `count`) has `lens[b - 1]` ops, from `ops[32 * (b - 1)]` on.
-#[derive(Drop)]
+#[derive(Clone, Copy)]
 pub struct Behaviours {
     pub count: u8,
     pub lens: [u8; 8],
@@ -212,21 +214,21 @@ pub struct Behaviours {
 }
 
 // A process that a plan starts, and the behaviour that it starts with.
-#[derive(Drop)]
+#[derive(Clone, Copy)]
 pub struct Start {
     pub process: ProcessNumber,
     pub behaviour: BehaviourNumber,
 }
 
 // A row of starts: the first `count` of the list.
-#[derive(Drop)]
+#[derive(Clone, Copy)]
 pub struct Starts {
     pub count: u8,
     pub list: [Start; 16],
 }
 
 // A step by its kind: 0 is `run owner`, 1 is `arrive owner from from`, 2 is `timeout owner`.
-#[derive(Drop)]
+#[derive(Clone, Copy)]
 pub struct Step {
     pub kind: u8,
     pub owner: ProcessNumber,

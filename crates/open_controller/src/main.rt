@@ -1,5 +1,7 @@
 // The program: plays the schedule in steps.txt on the plan in plan.txt, both in the folder that it is started in, and prints what
 // `controller::simulate` gives.
+#![tactic(auto)]
+
 ghost use Rattle.std.specs.Prelude.{◌≤◌, length};
 ghost use Rattle.controller.specs.Program.{program_text, longest_answer};
 ghost use Rattle.open_controller.specs.Answers.{Whole};

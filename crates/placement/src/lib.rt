@@ -1,4 +1,6 @@
 // Rule 14 of a plan's behaviours, and the line that is told of it.
+#![tactic(auto)]
+
 ghost use Rattle.std.specs.Prelude.{◌≡◌, ◌+◌, ◌*◌, ◌<◌, get_or, take, drop};
 ghost use Rattle.node.specs.Nodes.{no_op};
 ghost use Rattle.rules.specs.Behaviours.{due, has_clauses, in_turn, instruction, targets_free, well_placed};

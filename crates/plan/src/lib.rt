@@ -1,4 +1,6 @@
 // Plan text into a started node.
+#![tactic(auto)]
+
 ghost use Rattle.std.specs.Prelude.{[], ◌≡◌, ◌≤◌, ◌<◌, length};
 ghost use Rattle.text.specs.Parts.{lines_of};
 ghost use Rattle.plan_line.specs.Lines.{header_line, count_line, op_line, start_line};
@@ -18,7 +20,7 @@ const TOO_LONG: u8 = 10;
 const ILL_PLACED: u8 = 14;
 
 // What a load tells: the number, 10 to 14 or 0; the line, from 1, or 0; and the node, which is the blank one with a refusal.
-#[derive(Drop)]
+#[derive(Clone, Copy)]
 pub struct Loaded {
     pub number: u8,
     pub line: usize,
@@ -26,7 +28,7 @@ pub struct Loaded {
 }
 
 // How far a text is read: a refusal, or 0; the number of the next line, or of the refused one; and where that line begins.
-#[derive(Drop)]
+#[derive(Clone, Copy)]
 struct Mark {
     refusal: u8,
     line: usize,
@@ -34,19 +36,19 @@ struct Mark {
 }
 
 // What lines gave, and the mark behind them.
-#[derive(Drop)]
+#[derive(Clone, Copy)]
 struct CountAt {
     mark: Mark,
     number: u8,
 }
 
-#[derive(Drop)]
+#[derive(Clone, Copy)]
 struct OpAt {
     mark: Mark,
     op: Op,
 }
 
-#[derive(Drop)]
+#[derive(Clone, Copy)]
 struct StartAt {
     mark: Mark,
     start: Start,
@@ -56,7 +58,7 @@ struct StartAt {
 // it starts with, 0 where it is not started, and how many behaviours there are. It is handed on from line to line, for which a node is too
 // large: the node is made of it once, at the end. The ops stand first, so that they are copied without a few bytes more: copies between
 // places that are a page and a few bytes apart are slow.
-#[derive(Drop)]
+#[derive(Clone, Copy)]
 struct Codes {
     ops: [Op; 256],
     lens: [u8; 8],
@@ -64,7 +66,7 @@ struct Codes {
     count: u8,
 }
 
-#[derive(Drop)]
+#[derive(Clone, Copy)]
 struct CodesAt {
     mark: Mark,
     codes: Codes,

@@ -1,4 +1,6 @@
 // The lines of a plan, each read on its own.
+#![tactic(auto)]
+
 ghost use Rattle.std.specs.Prelude.{[], map, ◌≡◌, ◌<◌, ◌-◌, get_or};
 ghost use Rattle.node.specs.Ops.{op_count, op_words};
 ghost use Rattle.node.specs.Values.{any_kind};
@@ -51,7 +53,7 @@ const KIND_WORDS: [u64; 6] = [
 const NO_WORD: u64 = 1;
 
 // An operand as it is read: the refusal, 11 or 12, or 0; its number; and its value, where it has one.
-#[derive(Drop)]
+#[derive(Clone, Copy)]
 struct ReadOperand {
     refusal: u8,
     number: u8,
@@ -59,14 +61,14 @@ struct ReadOperand {
 }
 
 // An op as it is read: the refusal, 11 or 12, or 0, and the op with the operands that were read.
-#[derive(Drop)]
+#[derive(Clone, Copy)]
 pub struct Coded {
     pub refusal: u8,
     pub op: Op,
 }
 
 // A start as it is read: the refusal, 11 or 12, or 0, and its numbers.
-#[derive(Drop)]
+#[derive(Clone, Copy)]
 pub struct Start {
     pub refusal: u8,
     pub process: ProcessNumber,

@@ -1,5 +1,7 @@
 // Behaviours and a row of starts into plan text.
 // Run over an empty slice its writers count, so a text is counted before a buffer that may be too short is touched.
+#![tactic(auto)]
+
 ghost use Rattle.std.proofs.Math.Bool.{So};
 ghost use Rattle.std.specs.Prelude.{cond, ◌++◌, map, ◌≡◌, ◌≤◌, ◌<◌, eqb, length};
 ghost use Rattle.node.specs.Lists.{all_of};
@@ -22,7 +24,7 @@ use text::{put_byte, put_bytes, put_number, put_number_line, put_value};
 use words::put_word;
 
 // The refusal, 30 or 31, or 0 and the text's length. With a refusal the length is 0.
-#[derive(Drop)]
+#[derive(Clone, Copy)]
 pub struct Written {
     pub number: u8,
     pub length: usize,

@@ -1,5 +1,7 @@
 // Receiving: which message a clause takes, which kinds clauses can take, the search of a mailbox, what a process makes of its answer, and giving
 // up. The engine searches where messages and clauses stand, by the same parts as `search`; all that follows is told by the answer, here.
+#![tactic(auto)]
+
 ghost use Rattle.std.specs.Prelude.{◌&&◌, ◌≡◌, eqb, ltb, ◌≤◌, ◌-◌, min, take, drop};
 ghost use Rattle.node.specs.Ops.{recv_op};
 ghost use Rattle.node.specs.Processes.{moved};
@@ -16,7 +18,7 @@ use node::{
 
 // What the search of a mailbox answers: no message is there, none of its messages fits, or the first fit, with the index of the message and the
 // clause that takes it.
-#[derive(Drop)]
+#[derive(Clone, Copy)]
 pub enum Found {
     Silent,
     Unfit,
@@ -24,14 +26,14 @@ pub enum Found {
 }
 
 // What a search tells: its answer, and how many clauses it consulted.
-#[derive(Drop)]
+#[derive(Clone, Copy)]
 pub struct Searched {
     pub found: Found,
     pub consulted: usize,
 }
 
 // A set of kinds of messages: bit k for kind k. While clauses are noted, the bit of `any` stands for every kind.
-#[derive(Drop)]
+#[derive(Clone, Copy)]
 pub struct Kinds(pub usize);
 
 impl Kinds {

@@ -1,4 +1,6 @@
 // Steps text: lines `run=i`, `arrive=i,j` and `timeout=i`, each ended by byte 10, into the numbers of the steps.
+#![tactic(auto)]
+
 ghost use Rattle.std.specs.Prelude.{◌≡◌, set};
 ghost use Rattle.text.specs.Parts.{fields_of};
 ghost use Rattle.schedule.specs.Reading.{packed_of, own_of, arrival_of, step_of, line_of, refused_text, schedule_of};
@@ -17,7 +19,7 @@ const MALFORMED: u8 = 15;
 
 // The number told, 15, 32 or 0; the malformed line, from 1, or 0; and the steps, of which there are none with a refusal. A step is
 // its number (`actions::encode`); the entries behind the last are 0.
-#[derive(Drop)]
+#[derive(Clone, Copy)]
 pub struct Schedule {
     pub number: u8,
     pub line: usize,
@@ -26,7 +28,7 @@ pub struct Schedule {
 }
 
 // What one line is: 15, or a step (`line_of`).
-#[derive(Drop)]
+#[derive(Clone, Copy)]
 enum Line {
     Malformed,
     Step(u32),

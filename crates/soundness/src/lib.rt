@@ -1,6 +1,8 @@
 // Whether a node is sound (well-formed). What a call takes by value is copied, and so is a node of which an element is taken: each array of
 // the node is a local of its own, copied where it is looked at, and the cells, the largest of them, only where a signal is in flight. What
 // mailboxes and rows hold is looked at by calls on a single message or signal.
+#![tactic(auto)]
+
 ghost use Rattle.std.specs.Prelude.{true, ◌≡◌, ◌+◌, ◌*◌, ◌<◌};
 ghost use Rattle.rules.specs.Nodes.{sound};
 ghost use Rattle.soundness.specs.Parts.{Busy, Quiet};

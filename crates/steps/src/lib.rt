@@ -1,5 +1,7 @@
 // A schedule as a lent slice of step records, walked: each record is handed by value to `engine::step`, which looks at the whole node for
 // soundness at each step. `engine::play` looks once and is the faster way where the steps are at hand as numbers.
+#![tactic(auto)]
+
 ghost use Rattle.std.specs.Prelude.{cond, map, ◌≡◌, ◌+◌, ◌<◌, ◌≤◌, ◌^◌, eqb, length, take};
 ghost use Rattle.actions.specs.Numbers.{decode, action_of};
 ghost use Rattle.engine.specs.Answers.{played_of};

@@ -1,5 +1,7 @@
 // Lines, fields, words and numbers out of bytes, and texts into a lent buffer.
 // A writer writes its text at a place, as far as the buffer reaches, and answers the place behind it: run over an empty slice it counts.
+#![tactic(auto)]
+
 ghost use Rattle.std.specs.Prelude.{◌≡◌, [], ◌∷◌, ◌+◌, ◌*◌, ◌<◌, ◌≤◌, min, leb, nat_abs, length, get_or, drop};
 ghost use Rattle.node.specs.Lists.{all_of};
 ghost use Rattle.text.specs.Parts.{line_byte, before, place_from, fields_of, equal, starts_with};
@@ -25,7 +27,7 @@ const NO_NATURAL: u64 = 4294967297;
 const TOP: usize = 18446744073709551615;
 
 // A number as it is read: 11, or its sign and its value, held at the ceiling (`signed_of`).
-#[derive(Drop)]
+#[derive(Clone, Copy)]
 pub enum Number {
     Malformed,
     Plus(u64),
@@ -33,14 +35,14 @@ pub enum Number {
 }
 
 // A number with a range: the refusal, 11 or 12, or 0 and the number. With a refusal the number is 0.
-#[derive(Drop)]
+#[derive(Clone, Copy)]
 pub struct Ranged {
     pub refusal: u8,
     pub number: u8,
 }
 
 // A value as it is read: the refusal, 11 or 12, or 0 and the value. With a refusal the number of the value is 0.
-#[derive(Drop)]
+#[derive(Clone, Copy)]
 pub struct Parsed {
     pub refusal: u8,
     pub value: Value,

@@ -1,4 +1,6 @@
 // Words as numbers, their places in a table of numbers, and their letters.
+#![tactic(auto)]
+
 ghost use Rattle.std.specs.Prelude.{◌≡◌, ◌+◌, ◌-◌, ◌*◌, ◌≤◌, min};
 ghost use Rattle.text.specs.Writing.{Wrote};
 ghost use Rattle.words.specs.Words.{long_word, word_number, place_of, letters};
