@@ -1,10 +1,10 @@
 -- What a record tells by its type: how long its arrays are, and that its counts and places are bytes. Assumes nothing.
 use mathlib.Core.List.{List}
-use mathlib.Core.Path.{◌≡◌, sym, ◌∙◌}
+use mathlib.Core.Path.{◌≡◌}
 use Prim.Native.Nat.{◌<◌}
 use denote.Shadow.{shadow}
 use denote.Struct.Declared.{row}
-use lib.ListN.{length, length-map}
+use lib.ListN.{length}
 use mir.Val.{Val}
 use Rattle.node.specs.declared.Node.{Node}
 use Rattle.node.specs.contracts.Node.{the_type as node-type}
@@ -18,13 +18,13 @@ pub record SizedNode (n : Node) : Type 0 where
   pub counts : length n.counts ≡ 256
   pub cells : length n.cells ≡ 1024
 
-pub sized_node : (n : Node) {vs : List Val} → shadow ((row node-type).own n vs) → SizedNode n
+pub sized_node : (n : Node) {vs : List Val} → shadow ((row node-type).own_val n vs) → SizedNode n
 sized_node n g = record {
-  lens = sym (length-map n.lens _) ∙ g.1.1.1.0.1.0.1;
-  ops = sym (length-map n.ops _) ∙ g.1.1.1.1.0.1.0.1;
-  processes = sym (length-map n.processes _) ∙ g.1.1.1.1.1.0.1.0.1;
-  waiting = sym (length-map n.waiting _) ∙ g.1.1.1.1.1.1.0.1.0.1;
-  slots = sym (length-map n.slots _) ∙ g.1.1.1.1.1.1.1.0.1.0.1;
-  counts = sym (length-map n.counts _) ∙ g.1.1.1.1.1.1.1.1.0.1.0.1;
-  cells = sym (length-map n.cells _) ∙ g.1.1.1.1.1.1.1.1.1.0.1.0.1;
+  lens = g.1.1.1.0.1.0.1;
+  ops = g.1.1.1.1.0.1.0.1;
+  processes = g.1.1.1.1.1.0.1.0.1;
+  waiting = g.1.1.1.1.1.1.0.1.0.1;
+  slots = g.1.1.1.1.1.1.1.0.1.0.1;
+  counts = g.1.1.1.1.1.1.1.1.0.1.0.1;
+  cells = g.1.1.1.1.1.1.1.1.1.0.1.0.1;
 }

@@ -1,0 +1,16 @@
+-- `Peers::has` reads one digit. Assumes nothing.
+use borrow.Author.Rules.{rules}
+use mathlib.Core.Path.{sym}
+use native.Mathlib.Omega.{arith}
+use Rattle.node.proofs.Sets.{has_at, has_past}
+use Rattle.node.proofs.Peers.has.Goals as goal
+
+pub returns-then-k-lt16 : goal.returns-then-k-lt16
+returns-then-k-lt16 c =
+    let i = c.index-k in
+    rw i.ensures (sym (has_at _ _ (rw i.ensures at c.if-k-lt16.true)))
+
+pub returns : goal.returns
+returns c =
+    let i = c.index-k in
+    sym (has_past _ _ (omega (arith, i.ensures, c.if-k-lt16.false)))

@@ -1,0 +1,8 @@
+-- `Process::gone` gives `gone`. Assumes nothing.
+use Rattle.node.specs.Processes.{gone}
+use borrow.Author.Rules.{rules}
+use Rattle.node.proofs.Process.gone.Goals as goal
+
+pub returns : goal.returns
+unfolding gone
+returns c = c.with_stage.ensures

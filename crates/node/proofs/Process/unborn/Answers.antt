@@ -1,0 +1,6 @@
+-- `Process::unborn` gives `unborn`. Assumes nothing.
+use borrow.Author.Rules.{rules}
+use Rattle.node.proofs.Process.unborn.Goals as goal
+
+pub returns : goal.returns
+returns c = cc
