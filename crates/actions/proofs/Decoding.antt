@@ -3,7 +3,7 @@
 --   meant         what is decoded of a number means the number's action
 --   decoded_run decoded_timeout decoded_arrival, decoded_no_owner -no-kind -no-sender   what is decoded, by what the code tests
 --   decode_encode the number of a step stands for the step
-use mathlib.Core.Bool.{Bool, true, false, not, So, cond, ◌&&◌, and-false, false≢true}
+use mathlib.Core.Bool.{Bool, true, false, not, So, cond, and-false, false≢true}
 use mathlib.Core.List.{◌∷◌, []}
 use mathlib.Core.Path.{◌≡◌, refl, sym, ◌∙◌, ap}
 use Prim.Native.Nat.{ℕ, ◌+◌, ◌-◌, ◌*◌, ◌/◌, ◌%◌, ◌≤◌, ◌<◌, min}
