@@ -1,16 +1,11 @@
 -- `operands` reads each operand of an op by its kind. The invariant: what is read of the op, with the kinds and the fields that are left,
 -- gives the answer. Assumes nothing.
-use mathlib.Core.Path.{◌≡◌, refl}
+use mathlib.Core.Path.{◌≡◌}
 use Prim.Native.Nat.{◌≤◌, ◌-◌}
-use Prim.Native.Char.{code}
-use native.Mathlib.Omega.{arith}
-use borrow.Author.Rules.{rules}
 use lib.ListN.{get_or, drop}
 use Rattle.node.specs.Ops.{operand_counts, kinds_of}
-use Rattle.text.proofs.Parts.{place_after, place_inside}
 use Rattle.plan_line.specs.Ops.{FieldEnd, behind_field, op_of}
-use Rattle.plan_line.proofs.Fields.{behind_next, behind_none, end_found}
-use Rattle.plan_line.proofs.Ops.{read_left, left_all, operand_missing, operand_more, operand_surplus, operands_end}
+use Rattle.plan_line.proofs.Ops.{read_left}
 use Rattle.plan_line.proofs.operands.Given as goal
 
 abbrev pub invariant-loop-i : goal.invariant-loop-i
