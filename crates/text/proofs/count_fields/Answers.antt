@@ -11,7 +11,11 @@ pub loop-k-preserved : goal.loop-k-preserved
 loop-k-preserved c =
     let i = c.loop-k.invariant.1 in
     let h = c.loop-k-test.true in
-    elim c.if-line-k-eq44.branch [ then-line-k-eq44 w ↦ (omega arith, omega (arith, count_comma _ _ _ i h w.if-line-k-eq44.true)) | else-line-k-eq44 w ↦ (omega arith, omega (arith, count_other _ _ _ i h w.if-line-k-eq44.false)) ]
+    elim c.if-line-k-eq44.branch [
+      | then-line-k-eq44 w ↦ (omega arith, omega (arith, count_comma _ _ _ i h w.if-line-k-eq44.true))
+      | else-line-k-eq44 w ↦
+          (omega arith, omega (arith, count_other _ _ _ i h w.if-line-k-eq44.false))
+    ]
 
 pub returns : goal.returns
 returns c = count_end _ _ _ c.loop-k.invariant.1 c.loop-k-test.false
