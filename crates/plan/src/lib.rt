@@ -112,8 +112,8 @@ fn refused_load(number: u8, line: usize) -> Loaded
 // The lines of a plan, and what they say of its node.
 fn read_plan(text: &[u8]) -> CodesAt
     requires { length text.now ≤ 16384 }
-    ensures { Reached text.entry.now result.mark (coded_node result.codes)
-        (mapped node_of (plan_lines (record { text = lines_of text.entry.now; first = 1 }))) }
+    ensures { Reached text.now result.mark (coded_node result.codes)
+        (mapped node_of (plan_lines (record { text = lines_of text.now; first = 1 }))) }
 {
     let first = Mark {
         refusal: 0,

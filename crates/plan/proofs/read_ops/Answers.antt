@@ -1,0 +1,74 @@
+-- `read_ops` reads the ops of a behaviour. The invariant: those that are read stand in the node, and those that are left give the answer.
+-- Assumes nothing.
+use mathlib.Core.List.{[]}
+use mathlib.Core.Path.{sym, ◌∙◌}
+use native.Mathlib.Omega.{arith}
+use borrow.Author.Rules.{rules}
+use Rattle.node.specs.declared.Op.{Op}
+use Rattle.plan.specs.Plans.{coded_node, with_ops}
+use Rattle.plan.proofs.Loops.{mapped_same, mapped_on, left_one, turn_begin, turn_more, turn_stop, turn_end}
+use Rattle.plan.proofs.Nodes.{ops_anew, ops_next}
+use Rattle.plan.proofs.read_ops.Goals as goal
+
+pub bounds-n-b : goal.bounds-n-b
+bounds-n-b c = c.requires.2
+
+pub loop-i-init : goal.loop-i-init
+loop-i-init c =
+    let pre = c.requires in
+    (search rules, turn_begin _ _ _ _ _ pre.1 pre.0 (sym (ops_anew (coded_node c.args.codes) [])))
+
+pub op_at-x-requires : goal.op_at-x-requires
+op_at-x-requires c = c.loop-i.invariant.1.within
+
+pub returns-then-mark-ne0 : goal.returns-then-mark-ne0
+returns-then-mark-ne0 c =
+    let loop-test = c.loop-i-test in
+    let op_at_lem = c.op_at-x in
+    let turn = c.loop-i in
+    let args = c.args in
+    mapped_on _ _ (with_ops (with_ops (coded_node args.codes) [])) (with_ops (coded_node args.codes)) _
+    (turn_stop _ _ _ turn.invariant.1 (λ (x : Op). x) (record { is = op_at_lem.ensures.is ∙ mapped_same _; within = op_at_lem.ensures.within })
+    (left_one _ _ loop-test.true) (coded_node turn.n) c.if-mark-ne0.true)
+    (λ ops e. e ∙ ops_anew (coded_node args.codes) ops)
+
+pub overflow_mul-at : goal.overflow_mul-at
+overflow_mul-at c =
+    let pre = c.requires in
+    omega (arith, pre.2)
+
+pub overflow_add-at : goal.overflow_add-at
+overflow_add-at c =
+    let pre = c.requires in
+    omega (arith, pre.2)
+
+pub bounds-n-b-in-loop-i : goal.bounds-n-b-in-loop-i
+bounds-n-b-in-loop-i c = c.requires.2
+
+pub offset_bounds-n-at : goal.offset_bounds-n-at
+offset_bounds-n-at c =
+    let pre = c.requires in
+    omega (arith, pre.2, pre.3)
+
+pub bounds-n-at : goal.bounds-n-at
+bounds-n-at c =
+    let pre = c.requires in
+    let loop-test = c.loop-i-test in
+    omega (arith, pre.2, pre.3, loop-test.true)
+
+pub loop-i-preserved : goal.loop-i-preserved
+loop-i-preserved c =
+    let args = c.args in
+    let loop-test = c.loop-i-test in
+    let op_at_lem = c.op_at-x in
+    let turn = c.loop-i in (
+      search rules,
+      turn_more _ _ _ turn.invariant.1 (λ (x : Op). x) (record { is = op_at_lem.ensures.is ∙ mapped_same _; within = op_at_lem.ensures.within }) (left_one _ _ loop-test.true) c.if-mark-ne0.false
+          (λ x e. ops_next (with_ops (coded_node args.codes) []) turn.invariant.1.xs turn.invariant.1.made e turn.invariant.1.counted),
+    )
+
+pub returns : goal.returns
+returns c =
+    let args = c.args in
+    mapped_on _ _ (with_ops (with_ops (coded_node args.codes) [])) (with_ops (coded_node args.codes)) _ (turn_end _ _ _ c.loop-i.invariant.1 (omega arith))
+    (λ ops e. e ∙ ops_anew (coded_node args.codes) ops)
