@@ -1,7 +1,6 @@
 -- What a record tells by its type: how long its arrays are, and that its counts and places are bytes. Assumes nothing.
 use mathlib.Core.List.{List}
 use mathlib.Core.Path.{◌≡◌}
-use Prim.Native.Nat.{◌<◌}
 use denote.Shadow.{shadow}
 use denote.Struct.Declared.{row}
 use lib.ListN.{length}

@@ -4,7 +4,7 @@
 --   mail_shelf n      the mailboxes of n, a block of 16 slots to a process
 --   flight_shelf n    its signals in flight, a block of 4 cells to a pair
 --   blank_node        the node of a refused load
-use Rattle.std.specs.Prelude.{[], ◌∷◌, ℕ, ◌+◌, ◌-◌, ◌*◌, replicate}
+use Rattle.std.specs.Prelude.{◌∷◌, ℕ, ◌+◌, ◌-◌, ◌*◌, replicate}
 use Rattle.node.specs.declared.Cell.{Cell}
 use Rattle.node.specs.declared.Node.{Node}
 use Rattle.node.specs.declared.Op.{Op}

@@ -3,7 +3,7 @@ use mathlib.Core.Bool.{false, So}
 use mathlib.Core.List.{List, []}
 use mathlib.Core.Option.{Option, none, some}
 use mathlib.Core.Path.{◌≡◌, refl}
-use Prim.Native.Nat.{ℕ, ◌-◌, ◌≤◌, ◌<◌}
+use Prim.Native.Nat.{ℕ, ◌≤◌, ◌<◌}
 use lib.ListN.{length}
 use Rattle.node.specs.declared.Message.{Message}
 use Rattle.node.specs.declared.Process.{Process}

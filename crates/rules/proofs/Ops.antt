@@ -34,7 +34,7 @@ use Rattle.node.specs.Values.{badarg, badarith, pid, is_number, value_sound, mes
 use Rattle.rules.specs.Answers.{Answer}
 use Rattle.rules.specs.Behaviours.{Instruction, instruction, numeric, operand, operand_in_range, on_part, is_recv, is_clause, is_after, clause_count, no_instruction, has_clauses, code_sound}
 use Rattle.rules.specs.Effects.{State, Effect, becomes, ends}
-use Rattle.rules.specs.Nodes.{signal_sound, sound}
+use Rattle.rules.specs.Nodes.{signal_sound}
 use Rattle.rules.specs.Receive.{Fit, fits, first_clause, search, with_sender, with_message, fit, receives_by, receives}
 use Rattle.rules.specs.Run.{sets_register, jumps_if, sends_to, to_other, spawns, stops, op_table, runs_op}
 use Rattle.rules.proofs.All.{parts, or_left, all_of_at, Each, last, ◌then◌, each_at}

@@ -25,7 +25,6 @@ use Rattle.rules.specs.Guarantees.{Order, SoundKept, Stopped, PlayIsSteps, undec
 use Rattle.rules.specs.Nodes.{sound, Sound, Equal, view, behaviours_of, code, process, mailbox}
 use Rattle.rules.specs.Arrive.{answers, arrives_in, arrives}
 use Rattle.rules.specs.Run.{closes, runs_in, runs}
-use Rattle.node.specs.Values.{numbers}
 use Rattle.rules.specs.Steps.{Action, run, arrive, timeout, owner, is_unborn, owner_born, pair_has_room, number_free, with_birth, state, incoming, commit, decide, step, plays_on, played, play}
 use Rattle.rules.specs.Timeout.{expires_in, expires}
 use Rattle.rules.specs.Traces.{Runs}

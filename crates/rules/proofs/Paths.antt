@@ -1,7 +1,7 @@
 -- One law for each way that a step can go: the refusal that it meets, or the commit of its effect. Code that decides on small values and
 -- stores in place cites these. Assumes nothing.
 use mathlib.Core.Bool.{false, So, ◌&&◌}
-use mathlib.Core.Path.{◌≡◌, refl, ◌∙◌}
+use mathlib.Core.Path.{◌≡◌, ◌∙◌}
 use Prim.Native.Nat.{ℕ, ◌+◌, ◌-◌, ◌*◌, ◌≤◌, ◌<◌}
 use native.Mathlib.Omega.{arith}
 use borrow.Author.Tests.{leb-true}

@@ -2,17 +2,17 @@
 --   mail_blocks row_blocks   the mailboxes, each with the process that it belongs to, and the rows in flight, as blocks to be walked
 --   shaped_node            a node that code holds has its arrays in full
 --   sound_not sound_due    `sound`, where the behaviours are not sound, and where they are: then the blocks give it
-use mathlib.Core.Bool.{Bool, true, false, So, ◌&&◌, not, cond, and_assoc, and_comm, and-true, and-false, and-eq-true_iff}
+use mathlib.Core.Bool.{Bool, true, false, So, ◌&&◌, not, cond, and-true, and-false}
 use mathlib.Core.List.{List, [], ◌∷◌, map, flat_map}
 use mathlib.Core.Path.{◌≡◌, refl, sym, ◌∙◌, ap}
 use Prim.Native.Nat.{ℕ, zero, suc, ◌+◌, ◌-◌, ◌*◌, ◌/◌, ◌%◌, ◌≤◌, ◌<◌}
 use native.Mathlib.Nat.{mod-eq_of_lt}
 use native.Mathlib.Omega.{arith}
-use borrow.Author.Tests.{eqb-false, eqb-true, leb-true, le-leb, lt-leb, lt-ltb, ltb-false, ltb-true}
+use borrow.Author.Tests.{eqb-false, eqb-true, le-leb, lt-leb, ltb-false, ltb-true}
 use denote.Shadow.{shadow}
 use denote.Struct.Declared.{row as row_of}
 use lib.Dec.{eqb, leb, ltb}
-use lib.ListN.{length, get_or, get_or-eq_default}
+use lib.ListN.{length, get_or}
 use mir.Val.{Val}
 use Rattle.node.specs.declared.Cell.{Cell}
 use Rattle.node.specs.declared.Message.{Message}
@@ -27,14 +27,14 @@ use Rattle.node.specs.declared.Stage.TheVariants.{Unborn, Live, Closing, Gone}
 use Rattle.node.specs.Blocks.{block_of}
 use Rattle.node.specs.Lists.{all_from, all_of, firsts, rising}
 use Rattle.node.specs.Mailboxes.{messages, no_message}
-use Rattle.node.specs.Nodes.{flight_shelf, mail_shelf, no_op, no_process}
+use Rattle.node.specs.Nodes.{mail_shelf, no_op, no_process}
 use Rattle.node.specs.Ops.{is_part}
 use Rattle.node.specs.Rows.{no_signal, signals}
 use Rattle.node.specs.Processes.{links_to, watches_over, watched_by, mail_count}
 use Rattle.node.specs.Sets.{has}
 use Rattle.node.specs.Values.{is_number, message_sound, numbers, value_sound}
 use Rattle.node.proofs.Good.{sized_node}
-use Rattle.node.proofs.Lists.{all_from_rising, all_of_append}
+use Rattle.node.proofs.Lists.{all_of_append}
 use Rattle.node.proofs.Tests.{within_is}
 use Rattle.node.specs.contracts.Node.{the_type as node-type}
 use Rattle.rules.specs.Behaviours.{Instruction, code_sound, on_part}
@@ -194,7 +194,7 @@ module _ (n : Node) where
   behaviours_sound = leb 1 n.count && leb n.count 8 && all_of (code_sound n.count) (codes_in n.count n.lens n.ops)
 
   -- a node that code holds has its arrays in full
-  pub shaped_node : {vs : List Val} → shadow ((row_of node-type).own n vs) → So (shaped n)
+  pub shaped_node : {vs : List Val} → shadow ((row_of node-type).own_val n vs) → So (shaped n)
   shaped_node g =
       let z = sized_node n g in
       of_sized n (record {

@@ -1,6 +1,5 @@
 -- `is_number` gives `is_number`. Assumes nothing.
 use Rattle.node.specs.Values.{is_number}
-use borrow.Author.Rules.{rules}
 use Rattle.node.proofs.is_number.Goals as goal
 
 pub returns : goal.returns

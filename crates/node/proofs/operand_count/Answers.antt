@@ -1,5 +1,4 @@
 -- `operand_count` reads the table of operand counts; past it there is no op. Assumes nothing.
-use borrow.Author.Rules.{rules}
 use lib.ListN.{get_or-eq_default}
 use mathlib.Core.Path.{sym}
 use native.Mathlib.Omega.{arith}

@@ -1,5 +1,4 @@
 -- `operand_kind` gives an operand's kind by the shape of its op. Assumes nothing.
-use borrow.Author.Rules.{rules}
 use native.Mathlib.Omega.{arith}
 use Rattle.node.specs.declared.Shape.TheVariants.{Nothing, R, RS, RV, F, RBQ, N, KRST, T, RVT, RST}
 use Rattle.node.specs.Ops.{kinds_in}

@@ -1,10 +1,8 @@
 -- `shape_of` reads the table of shapes: what they hold is what the table of ops has there; past it there is no op. Assumes nothing.
-use borrow.Author.Rules.{rules}
 use lib.ListN.{get_or-eq_default, get_or-map}
 use mathlib.Core.List.{[]}
 use mathlib.Core.Path.{sym}
 use native.Mathlib.Omega.{arith}
-use Rattle.node.specs.declared.Shape.TheVariants.{Nothing}
 use Rattle.node.specs.Ops.{kinds_in, kinds_of, op_kinds}
 use Rattle.node.proofs.shape_of.Goals as goal
 

@@ -1,5 +1,4 @@
 -- `Node::blank` gives the blank node: its parts are those that its callees give. Assumes nothing.
-use borrow.Author.Rules.{rules}
 use Rattle.node.specs.Nodes.{blank_node}
 use Rattle.node.proofs.Node.blank.Goals as goal
 

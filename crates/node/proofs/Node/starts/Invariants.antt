@@ -1,12 +1,8 @@
 -- `Node::starts` puts the live processes into a row. The invariant: those before k are in it. Assumes nothing.
 use mathlib.Core.Path.{◌≡◌}
 use Prim.Native.Nat.{◌≤◌, ◌-◌}
-use native.Mathlib.Omega.{arith}
-use borrow.Author.Rules.{rules}
 use lib.ListN.{take}
-use Rattle.node.specs.Starts.{live_from, node_starts, row_of}
-use Rattle.node.proofs.Good.{sized_node}
-use Rattle.node.proofs.Live.{live_all, live_next, live_room}
+use Rattle.node.specs.Starts.{live_from, row_of}
 use Rattle.node.proofs.Node.starts.Given as goal
 
 abbrev pub invariant-loop-k : goal.invariant-loop-k

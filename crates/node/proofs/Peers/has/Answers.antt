@@ -1,5 +1,4 @@
 -- `Peers::has` reads one digit. Assumes nothing.
-use borrow.Author.Rules.{rules}
 use mathlib.Core.Path.{sym}
 use native.Mathlib.Omega.{arith}
 use Rattle.node.proofs.Sets.{has_at, has_past}

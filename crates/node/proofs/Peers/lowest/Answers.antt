@@ -1,10 +1,7 @@
 -- `Peers::lowest` finds the first digit: the loop keeps that the digits that are left give the answer. Assumes nothing.
 use borrow.Author.Rules.{rules}
-use mathlib.Core.Path.{◌≡◌, sym, ◌∙◌}
-use Prim.Native.Nat.{◌+◌, ◌-◌, ◌≤◌}
+use mathlib.Core.Path.{sym, ◌∙◌}
 use native.Mathlib.Omega.{arith}
-use lib.ListN.{drop}
-use Rattle.node.specs.Sets.{bits_of, first_from, lowest_peer}
 use Rattle.node.proofs.Sets.{lowest_start, lowest_here, lowest_next, lowest_end}
 use Rattle.node.proofs.Peers.lowest.Goals as goal
 

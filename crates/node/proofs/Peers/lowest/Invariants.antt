@@ -1,11 +1,8 @@
 -- `Peers::lowest` finds the first digit: the loop keeps that the digits that are left give the answer. Assumes nothing.
-use borrow.Author.Rules.{rules}
-use mathlib.Core.Path.{◌≡◌, sym, ◌∙◌}
+use mathlib.Core.Path.{◌≡◌}
 use Prim.Native.Nat.{◌+◌, ◌-◌, ◌≤◌}
-use native.Mathlib.Omega.{arith}
 use lib.ListN.{drop}
 use Rattle.node.specs.Sets.{bits_of, first_from, lowest_peer}
-use Rattle.node.proofs.Sets.{lowest_start, lowest_here, lowest_next, lowest_end}
 use Rattle.node.proofs.Peers.lowest.Given as goal
 
 abbrev pub invariant-loop-k : goal.invariant-loop-k

@@ -1,5 +1,4 @@
 -- `Peers::with` adds a digit that is not there. Assumes nothing.
-use borrow.Author.Rules.{rules}
 use mathlib.Core.Path.{sym}
 use Prim.Native.Nat.{◌-◌, ◌<◌}
 use native.Mathlib.Omega.{arith}
@@ -18,14 +17,12 @@ returns-then-self-k-eq1 c =
 
 pub overflow_add-result : goal.overflow_add-result
 overflow_add-result c =
-    
     let i = c.index-k in
     let low : c.args.j.0 - 1 < 16 = omega (arith, i.ensures, c.if-k-ge16.false) in
     record { fits = rw (i.ensures, shifted (c.args.j.0 - 1) low) (new_fits c.args.self c.args.j.0 low c.well_formed.0.1.1.0.1 (rw i.ensures at c.if-self-k-eq1.false)) }
 
 pub returns : goal.returns
 returns c =
-    
     let i = c.index-k in
     let low : c.args.j.0 - 1 < 16 = omega (arith, i.ensures, c.if-k-ge16.false) in
     rw (i.ensures, shifted (c.args.j.0 - 1) low) (sym (with_new _ _ low (rw i.ensures at c.if-self-k-eq1.false)))

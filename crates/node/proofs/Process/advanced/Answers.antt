@@ -1,6 +1,5 @@
 -- `Process::advanced` gives `advanced`. Assumes nothing.
 use Rattle.node.specs.Processes.{advanced}
-use borrow.Author.Rules.{rules}
 use Rattle.node.proofs.Process.advanced.Goals as goal
 
 pub returns : goal.returns

@@ -1,6 +1,5 @@
 -- `Process::ended` gives `ended`. Assumes nothing.
 use Rattle.node.specs.Processes.{ended}
-use borrow.Author.Rules.{rules}
 use Rattle.node.proofs.Process.ended.Goals as goal
 
 pub returns : goal.returns

@@ -1,6 +1,5 @@
 -- `Process::gone` gives `gone`. Assumes nothing.
 use Rattle.node.specs.Processes.{gone}
-use borrow.Author.Rules.{rules}
 use Rattle.node.proofs.Process.gone.Goals as goal
 
 pub returns : goal.returns

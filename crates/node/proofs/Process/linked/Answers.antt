@@ -1,6 +1,5 @@
 -- `Process::linked` gives `linked`. Assumes nothing.
 use Rattle.node.specs.Processes.{linked}
-use borrow.Author.Rules.{rules}
 use Rattle.node.proofs.Process.linked.Goals as goal
 
 pub returns : goal.returns

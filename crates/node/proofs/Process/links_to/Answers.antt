@@ -1,6 +1,5 @@
 -- `Process::links_to` gives `links_to`. Assumes nothing.
 use Rattle.node.specs.Processes.{links_to}
-use borrow.Author.Rules.{rules}
 use Rattle.node.proofs.Process.links_to.Goals as goal
 
 pub returns : goal.returns

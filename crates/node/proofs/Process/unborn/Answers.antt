@@ -1,5 +1,4 @@
 -- `Process::unborn` gives `unborn`. Assumes nothing.
-use borrow.Author.Rules.{rules}
 use Rattle.node.proofs.Process.unborn.Goals as goal
 
 pub returns : goal.returns

@@ -1,6 +1,5 @@
 -- `Process::unlinked` gives `unlinked`. Assumes nothing.
 use Rattle.node.specs.Processes.{unlinked}
-use borrow.Author.Rules.{rules}
 use Rattle.node.proofs.Process.unlinked.Goals as goal
 
 pub returns : goal.returns

@@ -1,6 +1,5 @@
 -- `Process::unwatched` gives `unwatched`. Assumes nothing.
 use Rattle.node.specs.Processes.{unwatched}
-use borrow.Author.Rules.{rules}
 use Rattle.node.proofs.Process.unwatched.Goals as goal
 
 pub returns : goal.returns

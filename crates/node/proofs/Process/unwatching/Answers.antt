@@ -1,6 +1,5 @@
 -- `Process::unwatching` gives `unwatching`. Assumes nothing.
 use Rattle.node.specs.Processes.{unwatching}
-use borrow.Author.Rules.{rules}
 use Rattle.node.proofs.Process.unwatching.Goals as goal
 
 pub returns : goal.returns

@@ -1,6 +1,5 @@
 -- `Process::watched` gives `watched`. Assumes nothing.
 use Rattle.node.specs.Processes.{watched}
-use borrow.Author.Rules.{rules}
 use Rattle.node.proofs.Process.watched.Goals as goal
 
 pub returns : goal.returns

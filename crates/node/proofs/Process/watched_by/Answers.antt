@@ -1,6 +1,5 @@
 -- `Process::watched_by` gives `watched_by`. Assumes nothing.
 use Rattle.node.specs.Processes.{watched_by}
-use borrow.Author.Rules.{rules}
 use Rattle.node.proofs.Process.watched_by.Goals as goal
 
 pub returns : goal.returns

@@ -1,6 +1,5 @@
 -- `Process::watches_over` gives `watches_over`. Assumes nothing.
 use Rattle.node.specs.Processes.{watches_over}
-use borrow.Author.Rules.{rules}
 use Rattle.node.proofs.Process.watches_over.Goals as goal
 
 pub returns : goal.returns

@@ -1,6 +1,5 @@
 -- `Process::watching` gives `watching`. Assumes nothing.
 use Rattle.node.specs.Processes.{watching}
-use borrow.Author.Rules.{rules}
 use Rattle.node.proofs.Process.watching.Goals as goal
 
 pub returns : goal.returns

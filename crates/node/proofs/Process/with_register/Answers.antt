@@ -1,7 +1,6 @@
 -- `Process::with_register` gives `with_register`: a number above 2 is none of 0, 1 and 2. Assumes nothing.
 use Rattle.node.proofs.Registers.{none_of_three}
 use Rattle.node.specs.Processes.{with_register}
-use borrow.Author.Rules.{rules}
 use Rattle.node.proofs.Process.with_register.Goals as goal
 
 pub returns-in-0 : goal.returns-in-0

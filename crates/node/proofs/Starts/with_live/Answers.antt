@@ -1,5 +1,4 @@
 -- `with_live` goes by the stage of the process. Assumes nothing.
-use borrow.Author.Rules.{rules}
 use Rattle.node.proofs.Starts.with_live.Goals as goal
 
 pub returns-in-Unborn : goal.returns-in-Unborn

@@ -1,0 +1,13 @@
+-- `put_gone` writes a gone process: only its stage. Assumes nothing.
+use borrow.Author.Rules.{rules}
+use Rattle.text.proofs.Writing.{wrote_length, ◌▸◌}
+use Rattle.listing_lines.specs.Lines.{standing_lines}
+use Rattle.listing_lines.proofs.put_gone.Goals as goal
+
+pub returns : goal.returns
+unfolding standing_lines
+returns c =
+    c.put_number_line-e.ensures ▸ c.put_bytes.ensures
+
+pub shape_of-out : goal.shape_of-out
+shape_of-out c = wrote_length (returns c)

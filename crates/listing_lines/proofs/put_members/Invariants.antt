@@ -1,0 +1,18 @@
+-- `put_members` writes the members of a set. The invariant: what is left to write are the members from k + 1 on,
+-- with a comma before the next where one is written. Assumes nothing.
+use Prim.Native.Nat.{◌-◌}
+use native.Mathlib.Omega.{arith}
+use borrow.Author.Rules.{rules}
+use lib.ListN.{drop}
+use Rattle.rules.specs.Nodes.{set_of}
+use Rattle.node.specs.Values.{numbers}
+use Rattle.text.proofs.Writing.{Left, left_all}
+use Rattle.listing_lines.specs.Lines.{members, with_commas}
+use Rattle.listing_lines.proofs.Laws.{commaed, left_member, left_members_end}
+use Rattle.listing_lines.proofs.put_members.Given as goal
+
+abbrev pub invariant-loop-k : goal.invariant-loop-k
+invariant-loop-k l = Left l.initial.out l.at (with_commas (members (set_of l.set) numbers)) l.out l.e (commaed l.later (members (set_of l.set) (drop l.k numbers)))
+
+abbrev pub decreases-loop-k : goal.decreases-loop-k
+decreases-loop-k l = 16 - l.k

@@ -1,0 +1,15 @@
+-- `misplaced_in` walks the ops of a behaviour. The loop keeps how many parts of a recv may stand, and that the ops that are left give the answer.
+-- Assumes nothing.
+use mathlib.Core.Path.{◌≡◌}
+use Prim.Native.Nat.{◌≤◌, ◌+◌, ◌-◌}
+use lib.ListN.{take, drop}
+use Rattle.rules.specs.Behaviours.{due}
+use Rattle.behaviours.specs.Codes.{code_in}
+use Rattle.placement.specs.Misplaced.{misplaced_in}
+use Rattle.placement.proofs.misplaced_in.Given as goal
+
+abbrev pub invariant-loop-t : goal.invariant-loop-t
+invariant-loop-t l = (l.t ≤ l.len) × (l.left ≡ due 0 (take l.t (code_in l.len l.ops l.k))) × (misplaced_in (code_in l.len l.ops l.k) 0 l.first (code_in l.len l.ops l.k) ≡ misplaced_in (code_in l.len l.ops l.k) l.t (l.first + l.t) (drop l.t (code_in l.len l.ops l.k)))
+
+abbrev pub decreases-loop-t : goal.decreases-loop-t
+decreases-loop-t l = l.len - l.t

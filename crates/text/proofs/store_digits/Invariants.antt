@@ -1,0 +1,12 @@
+-- `store_digits` stores a number that has room, from its last digit on. The invariant: the digits in front are left. The measure is what they stand for. Assumes nothing.
+use native.Mathlib.Omega.{arith}
+use borrow.Author.Rules.{rules}
+use Rattle.text.proofs.Stores.{Front, front_all, front_wide, front_more, front_end}
+use Rattle.text.proofs.Digits.{digits_some}
+use Rattle.text.proofs.store_digits.Given as goal
+
+abbrev pub invariant-loop-m : goal.invariant-loop-m
+invariant-loop-m l = Front l.initial.out l.at l.n l.out l.k l.m
+
+abbrev pub decreases-loop-m : goal.decreases-loop-m
+decreases-loop-m l = l.m
