@@ -1,4 +1,4 @@
-/* The Open Controller for C: link libcontroller_c.a (`rt staticlib controller_c` writes it to target/staticlib). */
+/* The Open Controller for C: link libcontroller_c.a (`rt lib` in crates/controller_c writes it to its folder out). */
 #ifndef OPEN_CONTROLLER_H
 #define OPEN_CONTROLLER_H
 

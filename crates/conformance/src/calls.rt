@@ -1,12 +1,13 @@
 // The public calls: rows of steps at their limit, and single steps.
 use super::show;
 use node::{Node, ProcessNumber, Step};
+use std::io;
 
-pub(crate) fn all() {
-    longest();
-    too_long();
-    too_long_first();
-    steps();
+pub(crate) fn all(rt: &impl Print) -> io::Result<()> {
+    longest(rt)?;
+    too_long(rt)?;
+    too_long_first(rt)?;
+    steps(rt)
 }
 
 // Process 1 counts its turns in r0.
@@ -26,52 +27,52 @@ start=1,1
 }
 
 // A row of 4,096 runs of process 1 is played whole.
-fn longest() {
+fn longest(rt: &impl Print) -> io::Result<()> {
     let numbers = [256u32; 4096];
-    played(b"32 4,096 steps", &numbers);
+    played(rt, b"32 4,096 steps", &numbers)
 }
 
 // Of a row of 4,097 none is played.
-fn too_long() {
+fn too_long(rt: &impl Print) -> io::Result<()> {
     let numbers = [256u32; 4097];
-    played(b"32 4,097 steps", &numbers);
+    played(rt, b"32 4,097 steps", &numbers)
 }
 
 // 32 is looked at before 20 of the first step.
-fn too_long_first() {
+fn too_long_first(rt: &impl Print) -> io::Result<()> {
     let numbers = [0u32; 4097];
-    played(b"32 before 20", &numbers);
+    played(rt, b"32 before 20", &numbers)
 }
 
-fn played(name: &[u8], numbers: &[u32]) {
-    show::title(name);
-    show::played(engine::play(counting(), numbers));
+fn played(rt: &impl Print, name: &[u8], numbers: &[u32]) -> io::Result<()> {
+    show::title(rt, name)?;
+    show::played(rt, engine::play(counting(), numbers))
 }
 
 // A single step: a run or a timeout, of which `from` means nothing; an arrival; and a record whose kind is none of these.
-fn steps() {
-    one_step(b"step run", 0, 99);
-    one_step(b"step arrival", 1, 1);
-    one_step(b"step timeout", 2, 99);
-    one_step(b"step of no kind", 3, 1);
+fn steps(rt: &impl Print) -> io::Result<()> {
+    one_step(rt, b"step run", 0, 99)?;
+    one_step(rt, b"step arrival", 1, 1)?;
+    one_step(rt, b"step timeout", 2, 99)?;
+    one_step(rt, b"step of no kind", 3, 1)
 }
 
 // A step of process 1, which stands at a stop.
-fn one_step(name: &[u8], kind: u8, from: u8) {
-    show::title(name);
-    stepped(stopping(), kind, from);
+fn one_step(rt: &impl Print, name: &[u8], kind: u8, from: u8) -> io::Result<()> {
+    show::title(rt, name)?;
+    stepped(rt, stopping(), kind, from)
 }
 
 // What a step of process 1 tells, and the node then.
-pub(crate) fn stepped(n: Node, kind: u8, from: u8) {
+pub(crate) fn stepped(rt: &impl Print, n: Node, kind: u8, from: u8) -> io::Result<()> {
     let s = Step {
         kind,
         owner: ProcessNumber(1),
         from: ProcessNumber(from),
     };
     let r = engine::step(n, s);
-    show::one(b"step=", r.refusal as u64);
-    show::listed(r.node);
+    show::one(rt, b"step=", r.refusal as u64)?;
+    show::listed(rt, r.node)
 }
 
 pub(crate) fn stopping() -> Node {

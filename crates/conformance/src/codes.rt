@@ -3,19 +3,20 @@
 use super::parts::{AT_CLAUSE, AT_JUMP};
 use super::{holds, parts, refused, show, unsound};
 use node::{ANY, BehaviourNumber, EXACT, LAST_KIND, Node, Op, ProcessNumber, Value};
+use std::io;
 
-pub(crate) fn all() {
-    behaviours();
-    registers();
-    clause_registers();
-    smalls();
-    receives();
-    spawns();
-    targets();
-    other_targets();
-    values();
-    clauses();
-    unread();
+pub(crate) fn all(rt: &impl Print) -> io::Result<()> {
+    behaviours(rt)?;
+    registers(rt)?;
+    clause_registers(rt)?;
+    smalls(rt)?;
+    receives(rt)?;
+    spawns(rt)?;
+    targets(rt)?;
+    other_targets(rt)?;
+    values(rt)?;
+    clauses(rt)?;
+    unread(rt)
 }
 
 pub(crate) fn plain(number: u8) -> Op {
@@ -77,51 +78,78 @@ fn spawn(b: u8, q: u8) -> Op {
 }
 
 // The longest behaviour, and the last op.
-fn behaviours() {
-    holds::whole(b"sound: a behaviour of 32 ops", unsound::with_length(32));
-    holds::with_op(b"sound: the last op number", AT_JUMP, plain(15));
+fn behaviours(rt: &impl Print) -> io::Result<()> {
+    holds::whole(
+        rt,
+        b"sound: a behaviour of 32 ops",
+        unsound::with_length(32),
+    )?;
+    holds::with_op(rt, b"sound: the last op number", AT_JUMP, plain(15))
 }
 
 // Registers are 0 to 3.
-fn registers() {
-    refused::with_op(b"31 an op with r4", AT_JUMP, with_registers(2, 4, 0));
-    holds::with_op(b"sound: an op with r3", AT_JUMP, with_registers(2, 3, 0));
-    refused::with_op(b"31 an op with s4", AT_JUMP, with_registers(1, 0, 4));
-    holds::with_op(b"sound: an op with s3", AT_JUMP, with_registers(1, 0, 3));
+fn registers(rt: &impl Print) -> io::Result<()> {
+    refused::with_op(rt, b"31 an op with r4", AT_JUMP, with_registers(2, 4, 0))?;
+    holds::with_op(
+        rt,
+        b"sound: an op with r3",
+        AT_JUMP,
+        with_registers(2, 3, 0),
+    )?;
+    refused::with_op(rt, b"31 an op with s4", AT_JUMP, with_registers(1, 0, 4))?;
+    holds::with_op(
+        rt,
+        b"sound: an op with s3",
+        AT_JUMP,
+        with_registers(1, 0, 3),
+    )
 }
 
-fn clause_registers() {
-    refused::with_op(b"31 a clause with r4", AT_CLAUSE, with_registers(11, 4, 0));
-    refused::with_op(b"31 a clause with s4", AT_CLAUSE, with_registers(11, 0, 4));
+fn clause_registers(rt: &impl Print) -> io::Result<()> {
+    refused::with_op(
+        rt,
+        b"31 a clause with r4",
+        AT_CLAUSE,
+        with_registers(11, 4, 0),
+    )?;
+    refused::with_op(
+        rt,
+        b"31 a clause with s4",
+        AT_CLAUSE,
+        with_registers(11, 0, 4),
+    )?;
     holds::with_op(
+        rt,
         b"sound: a clause with r3, s3",
         AT_CLAUSE,
         with_registers(11, 3, 3),
-    );
+    )
 }
 
 // A trap flag is 0 or 1, a clause's kind one of seven.
-fn smalls() {
-    refused::with_op(b"31 a trap flag of 7", AT_JUMP, with_small(8, 7));
-    refused::with_op(b"31 a trap flag of 2", AT_JUMP, with_small(8, 2));
-    holds::with_op(b"sound: a trap flag of 1", AT_JUMP, with_small(8, 1));
+fn smalls(rt: &impl Print) -> io::Result<()> {
+    refused::with_op(rt, b"31 a trap flag of 7", AT_JUMP, with_small(8, 7))?;
+    refused::with_op(rt, b"31 a trap flag of 2", AT_JUMP, with_small(8, 2))?;
+    holds::with_op(rt, b"sound: a trap flag of 1", AT_JUMP, with_small(8, 1))?;
     refused::with_op(
+        rt,
         b"31 a clause of no kind",
         AT_CLAUSE,
         with_small(11, LAST_KIND + 1),
-    );
+    )?;
     holds::with_op(
+        rt,
         b"sound: a clause of the last kind",
         AT_CLAUSE,
         with_small(11, LAST_KIND),
-    );
+    )
 }
 
 // A recv has 1 to 8 clauses.
-fn receives() {
-    refused::with_op(b"31 a recv of no clauses", AT_JUMP, with_small(10, 0));
-    refused::whole(b"31 a recv of nine clauses", nine_clauses());
-    holds::whole(b"sound: a recv of eight clauses", eight_clauses());
+fn receives(rt: &impl Print) -> io::Result<()> {
+    refused::with_op(rt, b"31 a recv of no clauses", AT_JUMP, with_small(10, 0))?;
+    refused::whole(rt, b"31 a recv of nine clauses", nine_clauses())?;
+    holds::whole(rt, b"sound: a recv of eight clauses", eight_clauses())
 }
 
 fn eight_clauses() -> Node {
@@ -155,91 +183,106 @@ fn nine_clauses() -> Node {
 }
 
 // A spawn names a behaviour of the node and a process number.
-fn spawns() {
-    refused::with_op(b"31 a spawn of behaviour 0", AT_JUMP, spawn(0, 1));
-    refused::with_op(b"31 a spawn of behaviour 2", AT_JUMP, spawn(2, 1));
-    refused::with_op(b"31 a spawn of process 0", AT_JUMP, spawn(1, 0));
-    refused::with_op(b"31 a spawn of process 17", AT_JUMP, spawn(1, 17));
-    holds::with_op(b"sound: a spawn of process 16", AT_JUMP, spawn(1, 16));
+fn spawns(rt: &impl Print) -> io::Result<()> {
+    refused::with_op(rt, b"31 a spawn of behaviour 0", AT_JUMP, spawn(0, 1))?;
+    refused::with_op(rt, b"31 a spawn of behaviour 2", AT_JUMP, spawn(2, 1))?;
+    refused::with_op(rt, b"31 a spawn of process 0", AT_JUMP, spawn(1, 0))?;
+    refused::with_op(rt, b"31 a spawn of process 17", AT_JUMP, spawn(1, 17))?;
+    holds::with_op(rt, b"sound: a spawn of process 16", AT_JUMP, spawn(1, 16))
 }
 
 // A target place is 0 to N.
-fn targets() {
-    refused::with_op(b"31 a jump past the end", AT_JUMP, with_target(12, 4));
-    holds::with_op(b"sound: a jump to the end", AT_JUMP, with_target(12, 3));
+fn targets(rt: &impl Print) -> io::Result<()> {
+    refused::with_op(rt, b"31 a jump past the end", AT_JUMP, with_target(12, 4))?;
+    holds::with_op(rt, b"sound: a jump to the end", AT_JUMP, with_target(12, 3))?;
     refused::with_op(
+        rt,
         b"31 a clause that leads past the end",
         AT_CLAUSE,
         with_target(11, 4),
-    );
+    )?;
     holds::with_op(
+        rt,
         b"sound: a clause that leads to the end",
         AT_CLAUSE,
         with_target(11, 3),
-    );
+    )
 }
 
-fn other_targets() {
-    refused::with_op(b"31 a same past the end", AT_JUMP, with_target(13, 4));
-    refused::with_op(b"31 a less past the end", AT_JUMP, with_target(14, 4));
-    refused::with_op(b"31 a same to a clause", AT_JUMP, with_target(13, 1));
-    refused::with_op(b"31 a less to a clause", AT_JUMP, with_target(14, 1));
+fn other_targets(rt: &impl Print) -> io::Result<()> {
+    refused::with_op(rt, b"31 a same past the end", AT_JUMP, with_target(13, 4))?;
+    refused::with_op(rt, b"31 a less past the end", AT_JUMP, with_target(14, 4))?;
+    refused::with_op(rt, b"31 a same to a clause", AT_JUMP, with_target(13, 1))?;
+    refused::with_op(rt, b"31 a less to a clause", AT_JUMP, with_target(14, 1))?;
     refused::with_op(
+        rt,
         b"31 a clause that leads to a clause",
         AT_CLAUSE,
         with_target(11, 1),
-    );
+    )
 }
 
 // A process number as an operand is 1 to 16.
-fn values() {
-    refused::with_op(b"31 a set to p0", AT_JUMP, with_value(0, 0, parts::pid(0)));
+fn values(rt: &impl Print) -> io::Result<()> {
     refused::with_op(
+        rt,
+        b"31 a set to p0",
+        AT_JUMP,
+        with_value(0, 0, parts::pid(0)),
+    )?;
+    refused::with_op(
+        rt,
         b"31 a set to p17",
         AT_JUMP,
         with_value(0, 0, parts::pid(17)),
-    );
+    )?;
     holds::with_op(
+        rt,
         b"sound: a set to p16",
         AT_JUMP,
         with_value(0, 0, parts::pid(16)),
-    );
+    )?;
     refused::with_op(
+        rt,
         b"31 a same with p17",
         AT_JUMP,
         with_value(13, 0, parts::pid(17)),
-    );
+    )?;
     refused::with_op(
+        rt,
         b"31 a clause of p17",
         AT_CLAUSE,
         with_value(11, EXACT, parts::pid(17)),
-    );
+    )?;
     holds::with_op(
+        rt,
         b"sound: a clause of p16",
         AT_CLAUSE,
         with_value(11, EXACT, parts::pid(16)),
-    );
+    )
 }
 
 // A clause belongs to a recv.
-fn clauses() {
-    refused::with_op(b"31 a stray clause", AT_JUMP, plain(11));
-    refused::with_op(b"31 a recv before the end", AT_JUMP, with_small(10, 1));
+fn clauses(rt: &impl Print) -> io::Result<()> {
+    refused::with_op(rt, b"31 a stray clause", AT_JUMP, plain(11))?;
+    refused::with_op(rt, b"31 a recv before the end", AT_JUMP, with_small(10, 1))
 }
 
 // What an op does not have as an operand is not looked at, nor a behaviour past the count.
-fn unread() {
+fn unread(rt: &impl Print) -> io::Result<()> {
     holds::with_op(
+        rt,
         b"sound: a jump with r200",
         AT_JUMP,
         with_registers(12, 200, 200),
-    );
+    )?;
     holds::with_op(
+        rt,
         b"sound: a clause of any kind, with p17",
         AT_CLAUSE,
         with_value(11, ANY, parts::pid(17)),
-    );
-    holds::whole(b"sound: a length past the count", with_unread_length());
+    )?;
+    holds::whole(rt, b"sound: a length past the count", with_unread_length())
 }
 
 fn with_unread_length() -> Node {

@@ -8,22 +8,23 @@ use node::{
     RECV, Slot, Value,
 };
 use receive::{Found, Searched};
+use std::io;
 
 // The largest number.
 const TOP: usize = 18446744073709551615;
 
-pub(crate) fn all() {
-    kinds();
-    settled();
-    full();
-    mixed();
-    within_the_arrays();
-    past_the_arrays();
-    numbers();
-    stages();
-    past_the_code();
-    two_recvs();
-    last_clause();
+pub(crate) fn all(rt: &impl Print) -> io::Result<()> {
+    kinds(rt)?;
+    settled(rt)?;
+    full(rt)?;
+    mixed(rt)?;
+    within_the_arrays(rt)?;
+    past_the_arrays(rt)?;
+    numbers(rt)?;
+    stages(rt)?;
+    past_the_code(rt)?;
+    two_recvs(rt)?;
+    last_clause(rt)
 }
 
 fn of_kind(kind: u8) -> Op {
@@ -35,111 +36,109 @@ fn exact(v: Value) -> Op {
 }
 
 // What is told of process i.
-pub(crate) fn consulted(n: Node, i: usize) {
-    io::write_all(1, b"clauses=");
-    count(n, i);
-    io::write_all(1, b"\n");
+pub(crate) fn consulted(rt: &impl Print, n: Node, i: usize) -> io::Result<()> {
+    rt.write_all(b"clauses=")?;
+    count(rt, n, i)?;
+    rt.write_all(b"\n")
 }
 
-fn count(n: Node, i: usize) {
+fn count(rt: &impl Print, n: Node, i: usize) -> io::Result<()> {
     let c = consult::consultation(n, i);
     match c {
-        Consulted::Unsound => {
-            io::write_all(1, b"unsound");
-        }
-        Consulted::Elsewhere => {
-            io::write_all(1, b"elsewhere");
-        }
-        Consulted::Clauses(k) => {
-            io::print_decimal(1, k as u64);
-        }
+        Consulted::Unsound => rt.write_all(b"unsound"),
+        Consulted::Elsewhere => rt.write_all(b"elsewhere"),
+        Consulted::Clauses(k) => rt.print(k as u64),
     }
 }
 
 // The answer of a search, and how many clauses it consulted; of a fit the index of the message first.
-fn answered(s: Searched) {
+fn answered(rt: &impl Print, s: Searched) -> io::Result<()> {
     let clauses = s.consulted as u64;
     let found = s.found;
     match found {
-        Found::Silent => {
-            show::one(b"silent=", clauses);
-        }
-        Found::Unfit => {
-            show::one(b"unfit=", clauses);
-        }
-        Found::Fit(k, _, _) => {
-            show::two(b"fit=", k as u64, clauses);
-        }
+        Found::Silent => show::one(rt, b"silent=", clauses),
+        Found::Unfit => show::one(rt, b"unfit=", clauses),
+        Found::Fit(k, _, _) => show::two(rt, b"fit=", k as u64, clauses),
     }
 }
 
 // What is told of process 1, which is at the recv at place 0, and what the search answers there.
-fn searched(name: &[u8], n: Node) {
-    show::title(name);
-    consulted(n, 1);
+fn searched(rt: &impl Print, name: &[u8], n: Node) -> io::Result<()> {
+    show::title(rt, name)?;
+    consulted(rt, n, 1)?;
     let slots = n.slots;
     let ops = n.ops;
     let recv = n.ops[0];
-    answered(receive::search(slots, 0, n.waiting[0], ops, 1, recv.small));
+    answered(
+        rt,
+        receive::search(slots, 0, n.waiting[0], ops, 1, recv.small),
+    )
 }
 
 // One clause and one message: 1 where the clause can take the message's kind, be it the message or not. Of the exact values the first of a
 // kind is the message, the second has the number of a message of another kind.
-fn kinds() {
-    show::title(b"consulted: a clause at i5, at a7, at p2, at a note and at a down of p2, a7");
-    row(b"any", of_kind(ANY));
-    row(b"int", of_kind(INT));
-    row(b"atom", of_kind(ATOM));
-    row(b"pid", of_kind(PID));
-    row(b"note", of_kind(NOTE));
-    row(b"down", of_kind(DOWN));
-    row(b"i5", exact(Value::Int(5)));
-    row(b"i7", exact(Value::Int(7)));
-    row(b"a7", exact(Value::Atom(7)));
-    row(b"a2", exact(Value::Atom(2)));
-    row(b"p2", exact(parts::pid(2)));
-    row(b"p5", exact(parts::pid(5)));
+fn kinds(rt: &impl Print) -> io::Result<()> {
+    show::title(
+        rt,
+        b"consulted: a clause at i5, at a7, at p2, at a note and at a down of p2, a7",
+    )?;
+    row(rt, b"any", of_kind(ANY))?;
+    row(rt, b"int", of_kind(INT))?;
+    row(rt, b"atom", of_kind(ATOM))?;
+    row(rt, b"pid", of_kind(PID))?;
+    row(rt, b"note", of_kind(NOTE))?;
+    row(rt, b"down", of_kind(DOWN))?;
+    row(rt, b"i5", exact(Value::Int(5)))?;
+    row(rt, b"i7", exact(Value::Int(7)))?;
+    row(rt, b"a7", exact(Value::Atom(7)))?;
+    row(rt, b"a2", exact(Value::Atom(2)))?;
+    row(rt, b"p2", exact(parts::pid(2)))?;
+    row(rt, b"p5", exact(parts::pid(5)))
 }
 
-fn row(name: &[u8], clause: Op) {
-    io::write_all(1, name);
+fn row(rt: &impl Print, name: &[u8], clause: Op) -> io::Result<()> {
+    rt.write_all(name)?;
     let n = parts::with_op(AT_CLAUSE, clause);
-    column(n, Message::Plain(Value::Int(5)));
-    column(n, Message::Plain(Value::Atom(7)));
-    column(n, Message::Plain(parts::pid(2)));
-    column(n, Message::Note(ProcessNumber(2), Value::Atom(7)));
-    column(n, Message::Down(ProcessNumber(2), Value::Atom(7)));
-    io::write_all(1, b"\n");
+    column(rt, n, Message::Plain(Value::Int(5)))?;
+    column(rt, n, Message::Plain(Value::Atom(7)))?;
+    column(rt, n, Message::Plain(parts::pid(2)))?;
+    column(rt, n, Message::Note(ProcessNumber(2), Value::Atom(7)))?;
+    column(rt, n, Message::Down(ProcessNumber(2), Value::Atom(7)))?;
+    rt.write_all(b"\n")
 }
 
-fn column(n: Node, m: Message) {
-    io::write_all(1, b" ");
-    count(parts::with_message(n, 0, m), 1);
+fn column(rt: &impl Print, n: Node, m: Message) -> io::Result<()> {
+    rt.write_all(b" ")?;
+    count(rt, parts::with_message(n, 0, m), 1)
 }
 
 // A clause counts that can't take the kind itself, once another can.
-fn settled() {
+fn settled(rt: &impl Print) -> io::Result<()> {
     let a7 = Message::Plain(Value::Atom(7));
     let int = of_kind(INT);
     searched(
+        rt,
         b"consulted: int, a3 at a7",
         parts::with_message(two(int, exact(Value::BADARG)), 0, a7),
-    );
+    )?;
     searched(
+        rt,
         b"consulted: int, int at a7",
         parts::with_message(two(int, int), 0, a7),
-    );
+    )?;
     searched(
+        rt,
         b"consulted: int, any at a7",
         parts::with_message(two(int, of_kind(ANY)), 0, a7),
-    );
+    )?;
     let i5 = Message::Plain(Value::Int(5));
     let n = parts::with_message(two(of_kind(ATOM), int), 0, i5);
     searched(
+        rt,
         b"consulted: atom, int at i5, a7",
         parts::with_message(n, 1, a7),
-    );
-    searched(b"consulted: int, int at no message", two(int, int));
+    )?;
+    searched(rt, b"consulted: int, int at no message", two(int, int))
 }
 
 // Process 1 at a recv of two clauses.
@@ -162,53 +161,62 @@ start=1,1
 }
 
 // Sixteen messages, which are i0 where nothing else is said, and eight clauses.
-fn full() {
+fn full(rt: &impl Print) -> io::Result<()> {
     searched(
+        rt,
         b"consulted: the last of sixteen messages fits the last of eight clauses",
         parts::with_message(of_one_kind(), 15, Message::Plain(Value::Int(8))),
-    );
+    )?;
     searched(
+        rt,
         b"consulted: the last of sixteen messages fits the first of eight clauses",
         parts::with_message(of_one_kind(), 15, Message::Plain(Value::Int(1))),
-    );
+    )?;
     let n = parts::with_message(of_one_kind(), 7, Message::Plain(Value::Int(5)));
     searched(
+        rt,
         b"consulted: the eighth of sixteen messages fits the fifth of eight clauses",
         parts::with_messages(n, 16),
-    );
+    )?;
     searched(
+        rt,
         b"consulted: sixteen messages of a kind that is taken, and no fit",
         parts::with_messages(of_one_kind(), 16),
-    );
+    )?;
     searched(
+        rt,
         b"consulted: sixteen messages of a kind that is not taken",
         parts::with_messages(of_two_kinds(), 16),
-    );
+    )
 }
 
 // Messages of all kinds; the values among them are taken by eight clauses of two kinds, of one and of three.
-fn mixed() {
+fn mixed(rt: &impl Print) -> io::Result<()> {
     searched(
+        rt,
         b"consulted: a fit among messages of kinds that are not taken",
         with_all_kinds(of_two_kinds(), 4),
-    );
+    )?;
     searched(
+        rt,
         b"consulted: no fit among messages of kinds that are not taken",
         with_all_kinds(of_one_kind(), 4),
-    );
+    )?;
     let mut n = of_two_kinds();
     n.ops[1] = exact(Value::Int(1));
     searched(
+        rt,
         b"consulted: no fit, and of all kinds only note and down are not taken",
         with_all_kinds(n, 9),
-    );
+    )?;
     n.slots[7] = Slot {
         message: Message::Plain(Value::Atom(9)),
     };
     searched(
+        rt,
         b"consulted: no fit, and every kind is taken",
         parts::with_messages(n, 16),
-    );
+    )
 }
 
 // Sixteen messages: i0, a9, p9, a note, a down, nine times i0, a process number, i0.
@@ -274,7 +282,7 @@ start=1,1
 }
 
 // A search of 256 slots by 256 clauses: all messages are i0 but the last, all clauses i1 but the last, and these two are i9.
-fn search(first: usize, count: u8, at: usize, clauses: u8) {
+fn search(rt: &impl Print, first: usize, count: u8, at: usize, clauses: u8) -> io::Result<()> {
     let zero = Slot::blank();
     let mut slots = [zero; 256];
     slots[255] = Slot {
@@ -283,104 +291,114 @@ fn search(first: usize, count: u8, at: usize, clauses: u8) {
     let one = exact(Value::Int(1));
     let mut ops = [one; 256];
     ops[255] = exact(Value::Int(9));
-    answered(receive::search(slots, first, count, ops, at, clauses));
+    answered(rt, receive::search(slots, first, count, ops, at, clauses))
 }
 
 // The largest counts, and none; then up to the arrays' ends.
-fn within_the_arrays() {
-    show::title(b"search: 255 messages and 255 clauses, and none");
-    search(0, 255, 0, 255);
-    search(0, 255, 0, 0);
-    search(0, 0, 0, 255);
-    show::title(b"search: up to the ends of the arrays");
-    search(1, 255, 1, 255);
-    search(255, 1, 255, 1);
+fn within_the_arrays(rt: &impl Print) -> io::Result<()> {
+    show::title(rt, b"search: 255 messages and 255 clauses, and none")?;
+    search(rt, 0, 255, 0, 255)?;
+    search(rt, 0, 255, 0, 0)?;
+    search(rt, 0, 0, 0, 255)?;
+    show::title(rt, b"search: up to the ends of the arrays")?;
+    search(rt, 1, 255, 1, 255)?;
+    search(rt, 255, 1, 255, 1)
 }
 
 // Past the end of an array stands nothing.
-fn past_the_arrays() {
-    show::title(b"search: messages past the slots");
-    search(250, 255, 255, 1);
-    search(256, 255, 0, 255);
-    search(257, 1, 0, 255);
-    search(4294967296, 255, 0, 255);
-    search(TOP, 255, 0, 255);
-    show::title(b"search: clauses past the ops");
-    search(255, 1, 250, 255);
-    search(255, 1, 256, 255);
-    search(255, 1, 257, 1);
-    search(255, 1, 4294967296, 255);
-    search(255, 1, TOP, 255);
-    show::title(b"search: messages and clauses past their arrays");
-    search(250, 255, 250, 255);
-    search(256, 255, 256, 255);
-    search(TOP, 255, TOP, 255);
+fn past_the_arrays(rt: &impl Print) -> io::Result<()> {
+    show::title(rt, b"search: messages past the slots")?;
+    search(rt, 250, 255, 255, 1)?;
+    search(rt, 256, 255, 0, 255)?;
+    search(rt, 257, 1, 0, 255)?;
+    search(rt, 4294967296, 255, 0, 255)?;
+    search(rt, TOP, 255, 0, 255)?;
+    show::title(rt, b"search: clauses past the ops")?;
+    search(rt, 255, 1, 250, 255)?;
+    search(rt, 255, 1, 256, 255)?;
+    search(rt, 255, 1, 257, 1)?;
+    search(rt, 255, 1, 4294967296, 255)?;
+    search(rt, 255, 1, TOP, 255)?;
+    show::title(rt, b"search: messages and clauses past their arrays")?;
+    search(rt, 250, 255, 250, 255)?;
+    search(rt, 256, 255, 256, 255)?;
+    search(rt, TOP, 255, TOP, 255)
 }
 
 // 31 is looked at first; then no number but 1 to 16 is one of a process.
-fn numbers() {
-    show::title(b"consulted: 31 before a number that is none");
-    consulted(parts::past_the_end(), 0);
-    consulted(parts::past_the_end(), 17);
-    consulted(parts::past_the_end(), TOP);
-    show::title(b"consulted: process 1, and numbers that are none");
+fn numbers(rt: &impl Print) -> io::Result<()> {
+    show::title(rt, b"consulted: 31 before a number that is none")?;
+    consulted(rt, parts::past_the_end(), 0)?;
+    consulted(rt, parts::past_the_end(), 17)?;
+    consulted(rt, parts::past_the_end(), TOP)?;
+    show::title(rt, b"consulted: process 1, and numbers that are none")?;
     let n = parts::with_messages(parts::started(), 1);
-    consulted(n, 1);
-    consulted(n, 0);
-    consulted(n, 17);
-    consulted(n, 257);
-    consulted(n, 4294967297);
-    consulted(n, TOP);
+    consulted(rt, n, 1)?;
+    consulted(rt, n, 0)?;
+    consulted(rt, n, 17)?;
+    consulted(rt, n, 257)?;
+    consulted(rt, n, 4294967297)?;
+    consulted(rt, n, TOP)
 }
 
 // Only its stage keeps each of the first three from a recv with a message.
-fn stages() {
-    with_process(b"consulted: an unborn process", Process::unborn());
+fn stages(rt: &impl Print) -> io::Result<()> {
+    with_process(rt, b"consulted: an unborn process", Process::unborn())?;
     with_process(
+        rt,
         b"consulted: a closing process",
         parts::first_process().ended(Value::NORMAL),
-    );
-    with_process(b"consulted: a gone process", parts::first_process().gone());
+    )?;
     with_process(
+        rt,
+        b"consulted: a gone process",
+        parts::first_process().gone(),
+    )?;
+    with_process(
+        rt,
         b"consulted: a process at a jump",
         parts::first_process().moved(AT_JUMP),
-    );
+    )?;
     with_process(
+        rt,
         b"consulted: a process at the end of its code",
         parts::first_process().moved(3),
-    );
+    )
 }
 
-fn with_process(name: &[u8], p: Process) {
-    show::title(name);
-    consulted(parts::with_messages(parts::with_process(p), 1), 1);
+fn with_process(rt: &impl Print, name: &[u8], p: Process) -> io::Result<()> {
+    show::title(rt, name)?;
+    consulted(rt, parts::with_messages(parts::with_process(p), 1), 1)
 }
 
 // What stands in the array behind the last op of a code is no part of it; a code of 32 ops fills its part of the array.
-fn past_the_code() {
-    show::title(b"consulted: a recv past the end of the code");
+fn past_the_code(rt: &impl Print) -> io::Result<()> {
+    show::title(rt, b"consulted: a recv past the end of the code")?;
     let mut n = parts::with_messages(parts::with_process(parts::first_process().moved(3)), 1);
     n.ops[3] = codes::with_small(RECV, 1);
     n.ops[4] = of_kind(ANY);
-    consulted(n, 1);
-    show::title(b"consulted: the end of a code of 32 ops");
+    consulted(rt, n, 1)?;
+    show::title(rt, b"consulted: the end of a code of 32 ops")?;
     let mut m = parts::with_messages(unsound::with_length(32), 1);
     m.ops[32] = codes::with_small(RECV, 1);
     m.processes[0] = parts::first_process().moved(32);
-    consulted(m, 1);
+    consulted(rt, m, 1)
 }
 
 // A recv has its own clauses, and not those of the recv behind it.
-fn two_recvs() {
-    show::title(b"consulted: a3, and behind it a recv of any; at a7, at i5");
-    at_recv(0, Value::Atom(7));
-    at_recv(0, Value::Int(5));
-    show::title(b"consulted: the recv of any; at a7, at i5");
-    at_recv(2, Value::Atom(7));
-    at_recv(2, Value::Int(5));
+fn two_recvs(rt: &impl Print) -> io::Result<()> {
+    show::title(
+        rt,
+        b"consulted: a3, and behind it a recv of any; at a7, at i5",
+    )?;
+    at_recv(rt, 0, Value::Atom(7))?;
+    at_recv(rt, 0, Value::Int(5))?;
+    show::title(rt, b"consulted: the recv of any; at a7, at i5")?;
+    at_recv(rt, 2, Value::Atom(7))?;
+    at_recv(rt, 2, Value::Int(5))
 }
 
-fn at_recv(place: u8, v: Value) {
+fn at_recv(rt: &impl Print, place: u8, v: Value) -> io::Result<()> {
     let mut n = show::reached(
         b"plan=1
 behaviours=1
@@ -395,12 +413,12 @@ start=1,1
         b"",
     );
     n.processes[0].place = place;
-    consulted(parts::with_message(n, 0, Message::Plain(v)), 1);
+    consulted(rt, parts::with_message(n, 0, Message::Plain(v)), 1)
 }
 
 // Process 16 has the last slots, and its recv the last of all ops.
-fn last_clause() {
-    show::title(b"consulted: the last process at the last clause");
+fn last_clause(rt: &impl Print) -> io::Result<()> {
+    show::title(rt, b"consulted: the last process at the last clause")?;
     let mut n = Node::blank();
     n.count = 8;
     n.lens = [32; 8];
@@ -411,6 +429,6 @@ fn last_clause() {
     n.slots[255] = Slot {
         message: Message::Plain(Value::Int(9)),
     };
-    consulted(n, 16);
-    consulted(n, 15);
+    consulted(rt, n, 16)?;
+    consulted(rt, n, 15)
 }

@@ -2,21 +2,22 @@
 use super::parts::SECOND_TO_FIRST;
 use super::{parts, show};
 use node::{Node, Process, ProcessNumber, Signal, Value};
+use std::io;
 
-pub(crate) fn all() {
-    not_linked();
-    killed();
-    noted();
-    normal();
-    ended();
+pub(crate) fn all(rt: &impl Print) -> io::Result<()> {
+    not_linked(rt)?;
+    killed(rt)?;
+    noted(rt)?;
+    normal(rt)?;
+    ended(rt)
 }
 
 // Process 1 as p, with sixteen messages; the signal is in flight to it from process 2, and arrives.
-fn arrives(name: &[u8], p: Process, x: Signal) {
-    show::title(name);
+fn arrives(rt: &impl Print, name: &[u8], p: Process, x: Signal) -> io::Result<()> {
+    show::title(rt, name)?;
     let n = with_signal(p, x);
     let numbers = [65794u32];
-    show::played(engine::play(n, &numbers));
+    show::played(rt, engine::play(n, &numbers))
 }
 
 fn with_signal(p: Process, x: Signal) -> Node {
@@ -33,61 +34,69 @@ fn linked(p: Process) -> Process {
 }
 
 // Line 1: linked, and the sender is no link.
-fn not_linked() {
+fn not_linked(rt: &impl Print) -> io::Result<()> {
     arrives(
+        rt,
         b"full mailbox: a linked exit from no link",
         trapping(),
         Signal::Exit(Value::Atom(9), true),
-    );
+    )
 }
 
 // Line 2: kill, trap or no trap.
-fn killed() {
+fn killed(rt: &impl Print) -> io::Result<()> {
     arrives(
+        rt,
         b"full mailbox: kill, trapped",
         trapping(),
         Signal::Exit(Value::KILL, false),
-    );
+    )?;
     arrives(
+        rt,
         b"full mailbox: kill",
         parts::first_process(),
         Signal::Exit(Value::KILL, false),
-    );
+    )
 }
 
 // Line 3: trapped, a note would join, of a linked kill too.
-fn noted() {
+fn noted(rt: &impl Print) -> io::Result<()> {
     arrives(
+        rt,
         b"full mailbox: an exit, trapped",
         trapping(),
         Signal::Exit(Value::NORMAL, false),
-    );
+    )?;
     arrives(
+        rt,
         b"full mailbox: a linked kill, trapped",
         linked(trapping()),
         Signal::Exit(Value::KILL, true),
-    );
+    )
 }
 
 // Line 4: normal from another.
-fn normal() {
+fn normal(rt: &impl Print) -> io::Result<()> {
     arrives(
+        rt,
         b"full mailbox: normal from another",
         parts::first_process(),
         Signal::Exit(Value::NORMAL, false),
-    );
+    )
 }
 
 // Line 5: the process ends, of a linked kill with a1.
-fn ended() {
+fn ended(rt: &impl Print) -> io::Result<()> {
     arrives(
+        rt,
         b"full mailbox: an exit",
         parts::first_process(),
         Signal::Exit(Value::Atom(9), false),
-    );
+    )?;
     arrives(
+        rt,
         b"full mailbox: a linked kill",
         linked(parts::first_process()),
         Signal::Exit(Value::KILL, true),
-    );
+    )
 }

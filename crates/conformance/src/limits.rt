@@ -2,42 +2,48 @@
 use super::parts::{FIRST_TO_ITSELF, FIRST_TO_SECOND, LAST_TO_ITSELF, SECOND_TO_ITSELF};
 use super::{holds, parts, refused};
 use node::{Message, Node, Process, ProcessNumber, Signal, Value};
+use std::io;
 
-pub(crate) fn all() {
-    places();
-    registers();
-    last_process();
-    mailboxes();
-    notes();
-    rows();
-    exits();
-    others();
-    links();
-    closing();
-    unheld();
-    unheld_closing();
+pub(crate) fn all(rt: &impl Print) -> io::Result<()> {
+    places(rt)?;
+    registers(rt)?;
+    last_process(rt)?;
+    mailboxes(rt)?;
+    notes(rt)?;
+    rows(rt)?;
+    exits(rt)?;
+    others(rt)?;
+    links(rt)?;
+    closing(rt)?;
+    unheld(rt)?;
+    unheld_closing(rt)
 }
 
-fn places() {
+fn places(rt: &impl Print) -> io::Result<()> {
     holds::with_process(
+        rt,
         b"sound: a place at the end",
         parts::first_process().moved(3),
-    );
-    refused::with_process(b"31 behaviour 0", parts::of_behaviour(0));
+    )?;
+    refused::with_process(rt, b"31 behaviour 0", parts::of_behaviour(0))
 }
 
-fn registers() {
-    refused::with_process(b"31 r0 with p17", parts::with_register(0, 17));
-    refused::with_process(b"31 r1 with p17", parts::with_register(1, 17));
-    refused::with_process(b"31 r3 with p17", parts::with_register(3, 17));
-    holds::with_process(b"sound: a register with p1", parts::with_register(2, 1));
-    holds::with_process(b"sound: a register with p16", parts::with_register(2, 16));
+fn registers(rt: &impl Print) -> io::Result<()> {
+    refused::with_process(rt, b"31 r0 with p17", parts::with_register(0, 17))?;
+    refused::with_process(rt, b"31 r1 with p17", parts::with_register(1, 17))?;
+    refused::with_process(rt, b"31 r3 with p17", parts::with_register(3, 17))?;
+    holds::with_process(rt, b"sound: a register with p1", parts::with_register(2, 1))?;
+    holds::with_process(
+        rt,
+        b"sound: a register with p16",
+        parts::with_register(2, 16),
+    )
 }
 
 // Process 16 is looked at as the first is.
-fn last_process() {
-    refused::whole(b"31 process 16 with p17", with_last(17));
-    holds::whole(b"sound: process 16 with p16", with_last(16));
+fn last_process(rt: &impl Print) -> io::Result<()> {
+    refused::whole(rt, b"31 process 16 with p17", with_last(17))?;
+    holds::whole(rt, b"sound: process 16 with p16", with_last(16))
 }
 
 fn with_last(number: u8) -> Node {
@@ -46,131 +52,149 @@ fn with_last(number: u8) -> Node {
     n
 }
 
-fn mailboxes() {
-    refused::with_message(b"31 a message p0", Message::Plain(parts::pid(0)));
-    holds::with_message(b"sound: a message p16", Message::Plain(parts::pid(16)));
-    refused::whole(b"31 the last of sixteen messages", full(17));
-    holds::whole(b"sound: sixteen messages", full(16));
+fn mailboxes(rt: &impl Print) -> io::Result<()> {
+    refused::with_message(rt, b"31 a message p0", Message::Plain(parts::pid(0)))?;
+    holds::with_message(rt, b"sound: a message p16", Message::Plain(parts::pid(16)))?;
+    refused::whole(rt, b"31 the last of sixteen messages", full(17))?;
+    holds::whole(rt, b"sound: sixteen messages", full(16))
 }
 
 fn full(last: u8) -> Node {
     parts::with_message(parts::started(), 15, Message::Plain(parts::pid(last)))
 }
 
-fn notes() {
+fn notes(rt: &impl Print) -> io::Result<()> {
     refused::with_message(
+        rt,
         b"31 a note from 17",
         Message::Note(ProcessNumber(17), Value::KILL),
-    );
+    )?;
     refused::with_message(
+        rt,
         b"31 a note of p17",
         Message::Note(ProcessNumber(1), parts::pid(17)),
-    );
+    )?;
     holds::with_message(
+        rt,
         b"sound: a note from 16 of p16",
         Message::Note(ProcessNumber(16), parts::pid(16)),
-    );
+    )
 }
 
-fn rows() {
+fn rows(rt: &impl Print) -> io::Result<()> {
     holds::whole(
+        rt,
         b"sound: four signals in flight",
         parts::with_signals(parts::started(), FIRST_TO_ITSELF, 4),
-    );
+    )?;
     refused::with_signal(
+        rt,
         b"31 a signal with p0",
         FIRST_TO_ITSELF,
         Signal::Msg(parts::pid(0)),
-    );
+    )?;
     holds::with_signal(
+        rt,
         b"sound: a signal with p16",
         FIRST_TO_ITSELF,
         Signal::Msg(parts::pid(16)),
-    );
+    )
 }
 
-fn exits() {
+fn exits(rt: &impl Print) -> io::Result<()> {
     refused::with_signal(
+        rt,
         b"31 an exit signal with p17",
         FIRST_TO_ITSELF,
         Signal::Exit(parts::pid(17), false),
-    );
+    )?;
     holds::with_signal(
+        rt,
         b"sound: an exit signal with p16",
         FIRST_TO_ITSELF,
         Signal::Exit(parts::pid(16), false),
-    );
+    )
 }
 
 // The row from 1 to 2, from 2 to 2, and the last of all.
-fn others() {
+fn others(rt: &impl Print) -> io::Result<()> {
     holds::with_signal(
+        rt,
         b"sound: an unlink in flight to another",
         FIRST_TO_SECOND,
         Signal::Unlink,
-    );
+    )?;
     refused::with_signal(
+        rt,
         b"31 a link in flight from 2 to 2",
         SECOND_TO_ITSELF,
         Signal::Link,
-    );
+    )?;
     refused::with_signal(
+        rt,
         b"31 the last row with p17",
         LAST_TO_ITSELF,
         Signal::Msg(parts::pid(17)),
-    );
+    )?;
     holds::with_signal(
+        rt,
         b"sound: the last row with p16",
         LAST_TO_ITSELF,
         Signal::Msg(parts::pid(16)),
-    );
+    )
 }
 
 // No live and no closing process links itself.
-fn links() {
-    holds::with_process(b"sound: a link to another", parts::linked(2));
+fn links(rt: &impl Print) -> io::Result<()> {
+    holds::with_process(rt, b"sound: a link to another", parts::linked(2))?;
     refused::with_process(
+        rt,
         b"31 a closing process that links itself",
         parts::linked(1).ended(Value::NORMAL),
-    );
+    )?;
     holds::with_process(
+        rt,
         b"sound: a closing process that links another",
         parts::linked(2).ended(Value::NORMAL),
-    );
+    )
 }
 
 fn ended(number: u8) -> Process {
     parts::first_process().ended(parts::pid(number))
 }
 
-fn closing() {
-    refused::with_process(b"31 a reason p0", ended(0));
-    refused::with_process(b"31 a reason p17", ended(17));
-    holds::with_process(b"sound: a reason p16", ended(16));
+fn closing(rt: &impl Print) -> io::Result<()> {
+    refused::with_process(rt, b"31 a reason p0", ended(0))?;
+    refused::with_process(rt, b"31 a reason p17", ended(17))?;
+    holds::with_process(rt, b"sound: a reason p16", ended(16))
 }
 
 // A gone process holds nothing.
-fn unheld() {
+fn unheld(rt: &impl Print) -> io::Result<()> {
     holds::with_process(
+        rt,
         b"sound: a gone process that links itself",
         parts::linked(1).gone(),
-    );
+    )?;
     holds::with_process(
+        rt,
         b"sound: a gone process with p17",
         ended(17).with_register(2, parts::pid(17)).gone(),
-    );
+    )
 }
 
 // A closing process holds a reason and links: no register, no place, no behaviour, no mail.
-fn unheld_closing() {
+fn unheld_closing(rt: &impl Print) -> io::Result<()> {
     holds::with_process(
+        rt,
         b"sound: a closing process with p17",
         ended(16).with_register(2, parts::pid(17)).moved(200),
-    );
+    )?;
     holds::whole(
+        rt,
         b"sound: a closing process with seventeen messages",
         closing_with_mail(),
-    );
+    )
 }
 
 fn closing_with_mail() -> Node {

@@ -2,6 +2,8 @@
 // stdout was worked out from documents 01 and 02 by hand.
 #![tactic(auto)]
 
+use std::io;
+
 mod calls;
 mod codes;
 mod counts;
@@ -21,19 +23,19 @@ mod unsound;
 mod watches;
 mod writes;
 
-fn main() {
-    full::all();
-    unsound::all();
-    codes::all();
-    limits::all();
-    watches::all();
-    timeouts::all();
-    receives::all();
-    counts::all();
-    calls::all();
-    offers::all();
-    plays::all();
-    texts::all();
-    lists::all();
-    writes::all();
+fn main(rt: HostRuntime) -> io::Result<()> {
+    full::all(&rt)?;
+    unsound::all(&rt)?;
+    codes::all(&rt)?;
+    limits::all(&rt)?;
+    watches::all(&rt)?;
+    timeouts::all(&rt)?;
+    receives::all(&rt)?;
+    counts::all(&rt)?;
+    calls::all(&rt)?;
+    offers::all(&rt)?;
+    plays::all(&rt)?;
+    texts::all(&rt)?;
+    lists::all(&rt)?;
+    writes::all(&rt)
 }

@@ -2,40 +2,42 @@
 use super::{calls, parts, show};
 use engine::Suggestion;
 use node::{Node, Step};
+use std::io;
 
-pub(crate) fn all() {
-    nobody();
-    waiting();
-    blocked();
-    all_gone();
-    one_run();
-    one_timeout();
-    one_arrival();
-    last_process();
-    lowest_owner();
-    last_sender();
-    run_first();
-    timeout_first();
-    lowest_sender();
-    closing();
-    number_taken();
-    mailbox_full();
+pub(crate) fn all(rt: &impl Print) -> io::Result<()> {
+    nobody(rt)?;
+    waiting(rt)?;
+    blocked(rt)?;
+    all_gone(rt)?;
+    one_run(rt)?;
+    one_timeout(rt)?;
+    one_arrival(rt)?;
+    last_process(rt)?;
+    lowest_owner(rt)?;
+    last_sender(rt)?;
+    run_first(rt)?;
+    timeout_first(rt)?;
+    lowest_sender(rt)?;
+    closing(rt)?;
+    number_taken(rt)?;
+    mailbox_full(rt)
 }
 
 // Nothing can be done where all are unborn.
-fn nobody() {
-    show::title(b"suggest: nobody is born");
-    suggest(Node::blank());
+fn nobody(rt: &impl Print) -> io::Result<()> {
+    show::title(rt, b"suggest: nobody is born")?;
+    suggest(rt, Node::blank())
 }
 
-fn waiting() {
-    show::title(b"suggest: a process waits");
-    suggest(calls::receiving());
+fn waiting(rt: &impl Print) -> io::Result<()> {
+    show::title(rt, b"suggest: a process waits")?;
+    suggest(rt, calls::receiving())
 }
 
 // Process 1 sends to a full pair (26), and process 4, to whom the signals go, is unborn (21).
-fn blocked() {
+fn blocked(rt: &impl Print) -> io::Result<()> {
     suggested(
+        rt,
         b"suggest: a full pair to an unborn process",
         b"plan=1
 behaviours=1
@@ -56,12 +58,13 @@ run=1
 run=1
 run=1
 ",
-    );
+    )
 }
 
 // A gone process owns no run, and nothing is in flight.
-fn all_gone() {
+fn all_gone(rt: &impl Print) -> io::Result<()> {
     suggested(
+        rt,
         b"suggest: all are gone",
         b"plan=1
 behaviours=1
@@ -73,18 +76,19 @@ start=1,1
         b"run=1
 run=1
 ",
-    );
+    )
 }
 
 // Only the run of process 1 would be accepted.
-fn one_run() {
-    show::title(b"suggest: one run");
-    suggest(calls::stopping());
+fn one_run(rt: &impl Print) -> io::Result<()> {
+    show::title(rt, b"suggest: one run")?;
+    suggest(rt, calls::stopping())
 }
 
 // Process 2 waits with a message that does not fit, and may give up.
-fn one_timeout() {
+fn one_timeout(rt: &impl Print) -> io::Result<()> {
     suggested(
+        rt,
         b"suggest: one timeout",
         b"plan=1
 behaviours=1
@@ -101,12 +105,13 @@ start=2,1
 run=2
 arrive=2,2
 ",
-    );
+    )
 }
 
 // Processes 2 and 3 wait, and a signal is in flight from 2 to 3.
-fn one_arrival() {
+fn one_arrival(rt: &impl Print) -> io::Result<()> {
     suggested(
+        rt,
         b"suggest: one arrival",
         b"plan=1
 behaviours=2
@@ -125,12 +130,13 @@ start=3,2
         b"run=2
 run=2
 ",
-    );
+    )
 }
 
 // Process 16 waits for the message that it sent to itself: the last of all steps.
-fn last_process() {
+fn last_process(rt: &impl Print) -> io::Result<()> {
     suggested(
+        rt,
         b"suggest: the last process",
         b"plan=1
 behaviours=1
@@ -145,12 +151,13 @@ start=16,1
         b"run=16
 run=16
 ",
-    );
+    )
 }
 
 // Three processes could run: the lowest is named, and not the first of the steps that led here.
-fn lowest_owner() {
+fn lowest_owner(rt: &impl Print) -> io::Result<()> {
     suggested(
+        rt,
         b"suggest: the lowest of three owners",
         b"plan=1
 behaviours=1
@@ -167,12 +174,13 @@ run=5
 run=2
 run=2
 ",
-    );
+    )
 }
 
 // Process 1 waits, 16 has sent to it, and 2 could run: the owner comes first.
-fn last_sender() {
+fn last_sender(rt: &impl Print) -> io::Result<()> {
     suggested(
+        rt,
         b"suggest: an arrival from 16 before a run of 2",
         b"plan=1
 behaviours=3
@@ -192,12 +200,13 @@ start=16,3
         b"run=16
 run=16
 ",
-    );
+    )
 }
 
 // What process 1 sent to itself is in flight, and it could run on.
-fn run_first() {
+fn run_first(rt: &impl Print) -> io::Result<()> {
     suggested(
+        rt,
         b"suggest: a run before an arrival",
         b"plan=1
 behaviours=1
@@ -211,12 +220,13 @@ start=1,1
         b"run=1
 run=1
 ",
-    );
+    )
 }
 
 // What process 1 sent to itself is in flight, and it may give up waiting.
-fn timeout_first() {
+fn timeout_first(rt: &impl Print) -> io::Result<()> {
     suggested(
+        rt,
         b"suggest: a timeout before an arrival",
         b"plan=1
 behaviours=1
@@ -232,12 +242,13 @@ start=1,1
         b"run=1
 run=1
 ",
-    );
+    )
 }
 
 // Processes 3 and 2 have sent to process 1, in this order.
-fn lowest_sender() {
+fn lowest_sender(rt: &impl Print) -> io::Result<()> {
     suggested(
+        rt,
         b"suggest: the lower of two senders",
         b"plan=1
 behaviours=2
@@ -257,12 +268,13 @@ run=3
 run=2
 run=2
 ",
-    );
+    )
 }
 
 // Process 1 has ended; 2 is live.
-fn closing() {
+fn closing(rt: &impl Print) -> io::Result<()> {
     suggested(
+        rt,
         b"suggest: a run of a closing process",
         b"plan=1
 behaviours=1
@@ -274,12 +286,13 @@ start=2,1
 ",
         b"run=1
 ",
-    );
+    )
 }
 
 // The run of process 1 is refused with 27.
-fn number_taken() {
+fn number_taken(rt: &impl Print) -> io::Result<()> {
     suggested(
+        rt,
         b"suggest: behind a spawn of a born process",
         b"plan=1
 behaviours=2
@@ -292,12 +305,12 @@ start=1,1
 start=2,2
 ",
         b"",
-    );
+    )
 }
 
 // Process 1 has sixteen integers, and waits for a process number: its run is refused with 29, an arrival with 24.
-fn mailbox_full() {
-    show::title(b"suggest: behind an arrival at a full mailbox");
+fn mailbox_full(rt: &impl Print) -> io::Result<()> {
+    show::title(rt, b"suggest: behind an arrival at a full mailbox")?;
     let n = parts::with_messages(
         show::reached(
             b"plan=1
@@ -315,48 +328,42 @@ start=2,2
         ),
         16,
     );
-    suggest(parts::with_signals(n, parts::SECOND_TO_FIRST, 1));
+    suggest(rt, parts::with_signals(n, parts::SECOND_TO_FIRST, 1))
 }
 
 // What is suggested where a plan and steps lead.
-fn suggested(name: &[u8], plan: &[u8], steps: &[u8]) {
-    show::title(name);
-    suggest(show::reached(plan, steps));
+fn suggested(rt: &impl Print, name: &[u8], plan: &[u8], steps: &[u8]) -> io::Result<()> {
+    show::title(rt, name)?;
+    suggest(rt, show::reached(plan, steps))
 }
 
 // The step that is suggested, and its refusal when it is taken.
-pub(crate) fn suggest(n: Node) {
+pub(crate) fn suggest(rt: &impl Print, n: Node) -> io::Result<()> {
     let s = engine::suggest(n);
     match s {
-        Suggestion::Unsound => {
-            io::write_all(1, b"31\n");
-        }
+        Suggestion::Unsound => rt.write_all(b"31\n"),
         Suggestion::Next(step) => {
-            named(step);
-            take(n, step);
+            named(rt, step)?;
+            take(rt, n, step)
         }
-        Suggestion::Nothing => {
-            io::write_all(1, b"none\n");
-        }
+        Suggestion::Nothing => rt.write_all(b"none\n"),
     }
 }
 
 // A step, with its `from` also where a steps text has none: it is 0 there.
-fn named(s: Step) {
+fn named(rt: &impl Print, s: Step) -> io::Result<()> {
     let owner = s.owner;
     let from = s.from;
     if s.kind == 0 {
-        show::two(b"run=", owner.0 as u64, from.0 as u64);
-        return;
+        return show::two(rt, b"run=", owner.0 as u64, from.0 as u64);
     }
     if s.kind == 2 {
-        show::two(b"timeout=", owner.0 as u64, from.0 as u64);
-        return;
+        return show::two(rt, b"timeout=", owner.0 as u64, from.0 as u64);
     }
-    show::two(b"arrive=", owner.0 as u64, from.0 as u64);
+    show::two(rt, b"arrive=", owner.0 as u64, from.0 as u64)
 }
 
-fn take(n: Node, s: Step) {
+fn take(rt: &impl Print, n: Node, s: Step) -> io::Result<()> {
     let r = engine::step(n, s);
-    show::one(b"step=", r.refusal as u64);
+    show::one(rt, b"step=", r.refusal as u64)
 }

@@ -2,114 +2,116 @@
 use super::calls::counting;
 use super::{parts, show};
 use node::Node;
+use std::io;
 
-pub(crate) fn all() {
-    lent_refused();
-    lent_no_kind();
-    lent_longest();
-    lent_long();
-    listed();
-    listed_fits();
-    listed_short();
-    listed_unsound();
-    listed_long_short();
-    listed_long();
+pub(crate) fn all(rt: &impl Print) -> io::Result<()> {
+    lent_refused(rt)?;
+    lent_no_kind(rt)?;
+    lent_longest(rt)?;
+    lent_long(rt)?;
+    listed(rt)?;
+    listed_fits(rt)?;
+    listed_short(rt)?;
+    listed_unsound(rt)?;
+    listed_long_short(rt)?;
+    listed_long(rt)
 }
 
 // Two steps are played, the third is refused, and the fourth is not played.
-fn lent_refused() {
+fn lent_refused(rt: &impl Print) -> io::Result<()> {
     let numbers = [256u32, 256, 0, 256];
-    lent(b"records: until one is refused", &numbers);
+    lent(rt, b"records: until one is refused", &numbers)
 }
 
 // A record whose kind is none.
-fn lent_no_kind() {
+fn lent_no_kind(rt: &impl Print) -> io::Result<()> {
     let numbers = [256u32, 196864];
-    lent(b"records: of no kind", &numbers);
+    lent(rt, b"records: of no kind", &numbers)
 }
 
-fn lent_longest() {
+fn lent_longest(rt: &impl Print) -> io::Result<()> {
     let numbers = [256u32; 4096];
-    lent(b"records: 4,096 steps", &numbers);
+    lent(rt, b"records: 4,096 steps", &numbers)
 }
 
 // 32 is looked at before 20 of the first step.
-fn lent_long() {
+fn lent_long(rt: &impl Print) -> io::Result<()> {
     let numbers = [0u32; 4097];
-    lent(b"records: 32 before 20", &numbers);
+    lent(rt, b"records: 32 before 20", &numbers)
 }
 
-fn lent(name: &[u8], numbers: &[u32]) {
-    show::title(name);
-    show::played(steps::play_lent(counting(), numbers));
+fn lent(rt: &impl Print, name: &[u8], numbers: &[u32]) -> io::Result<()> {
+    show::title(rt, name)?;
+    show::played(rt, steps::play_lent(counting(), numbers))
 }
 
 // The listing is that of the node behind the steps.
-fn listed() {
+fn listed(rt: &impl Print) -> io::Result<()> {
     let numbers = [256u32, 0];
     let mut out = [b'#'; 120];
-    counted(b"play and list", &numbers, &mut out);
+    counted(rt, b"play and list", &numbers, &mut out)
 }
 
 // The listing has 105 bytes, and so has the buffer.
-fn listed_fits() {
+fn listed_fits(rt: &impl Print) -> io::Result<()> {
     let numbers = [256u32];
     let mut out = [b'#'; 105];
     counted(
+        rt,
         b"play and list: the buffer is just long enough",
         &numbers,
         &mut out,
-    );
+    )
 }
 
 // A buffer of 104 bytes is too short: it stays, and so does the node.
-fn listed_short() {
+fn listed_short(rt: &impl Print) -> io::Result<()> {
     let numbers = [256u32];
     let mut out = [b'#'; 104];
-    counted(b"play and list: 30 leaves the node", &numbers, &mut out);
-    whole(&out);
+    counted(rt, b"play and list: 30 leaves the node", &numbers, &mut out)?;
+    whole(rt, &out)
 }
 
 // 31 is looked at before 30, of a node whose place is past its end.
-fn listed_unsound() {
-    show::title(b"play and list: 31 before 30");
+fn listed_unsound(rt: &impl Print) -> io::Result<()> {
+    show::title(rt, b"play and list: 31 before 30")?;
     let numbers = [256u32];
     let mut out = [b'#'; 1];
-    told(parts::past_the_end(), &numbers, &mut out);
-    whole(&out);
+    told(rt, parts::past_the_end(), &numbers, &mut out)?;
+    whole(rt, &out)
 }
 
 // 30 is looked at before 32.
-fn listed_long_short() {
+fn listed_long_short(rt: &impl Print) -> io::Result<()> {
     let numbers = [0u32; 4097];
     let mut out = [b'#'; 1];
-    counted(b"play and list: 30 before 32", &numbers, &mut out);
-    whole(&out);
+    counted(rt, b"play and list: 30 before 32", &numbers, &mut out)?;
+    whole(rt, &out)
 }
 
 // With room for the listing 32 is told, before 20 of the first step.
-fn listed_long() {
+fn listed_long(rt: &impl Print) -> io::Result<()> {
     let numbers = [0u32; 4097];
     let mut out = [b'#'; 120];
-    counted(b"play and list: 32 before 20", &numbers, &mut out);
+    counted(rt, b"play and list: 32 before 20", &numbers, &mut out)
 }
 
-fn counted(name: &[u8], numbers: &[u32], out: &mut [u8]) {
-    show::title(name);
-    told(counting(), numbers, out);
+fn counted(rt: &impl Print, name: &[u8], numbers: &[u32], out: &mut [u8]) -> io::Result<()> {
+    show::title(rt, name)?;
+    told(rt, counting(), numbers, out)
 }
 
 // What a play with the listing tells, its listing, and the node that it hands out.
-fn told(n: Node, numbers: &[u32], out: &mut [u8]) {
+fn told(rt: &impl Print, n: Node, numbers: &[u32], out: &mut [u8]) -> io::Result<()> {
     let r = controller::play_and_list(n, numbers, out);
-    show::two(b"played=", r.accepted as u64, r.refusal as u64);
-    show::one(b"length=", r.length as u64);
-    show::write_first(out, r.length);
-    show::listed(r.node);
+    show::two(rt, b"played=", r.accepted as u64, r.refusal as u64)?;
+    show::one(rt, b"length=", r.length as u64)?;
+    show::write_first(rt, out, r.length)?;
+    show::listed(rt, r.node)
 }
 
 // All bytes of a buffer, and the end of the line.
-fn whole(out: &[u8]) {
-    io::write_all(1, out);
-    io::write_all(1, b"\n");
+fn whole(rt: &impl Print, out: &[u8]) -> io::Result<()> {
+    rt.write_all(out)?;
+    rt.write_all(b"\n")
 }

@@ -2,53 +2,48 @@
 use super::{counts, parts, show};
 use engine::Suggestion;
 use node::{Message, Node, Op, Process, ProcessNumber, Signal, Step};
+use std::io;
 
-pub(crate) fn whole(name: &[u8], n: Node) {
-    show::title(name);
-    show::run(n);
-    step_run(n);
-    suggestion(n);
-    counts::consulted(n, 1);
-    show::listed(n);
+pub(crate) fn whole(rt: &impl Print, name: &[u8], n: Node) -> io::Result<()> {
+    show::title(rt, name)?;
+    show::run(rt, n)?;
+    step_run(rt, n)?;
+    suggestion(rt, n)?;
+    counts::consulted(rt, n, 1)?;
+    show::listed(rt, n)
 }
 
-pub(crate) fn with_op(name: &[u8], place: u8, o: Op) {
-    whole(name, parts::with_op(place, o));
+pub(crate) fn with_op(rt: &impl Print, name: &[u8], place: u8, o: Op) -> io::Result<()> {
+    whole(rt, name, parts::with_op(place, o))
 }
 
-pub(crate) fn with_process(name: &[u8], p: Process) {
-    whole(name, parts::with_process(p));
+pub(crate) fn with_process(rt: &impl Print, name: &[u8], p: Process) -> io::Result<()> {
+    whole(rt, name, parts::with_process(p))
 }
 
-pub(crate) fn with_message(name: &[u8], m: Message) {
-    whole(name, parts::with_message(parts::started(), 0, m));
+pub(crate) fn with_message(rt: &impl Print, name: &[u8], m: Message) -> io::Result<()> {
+    whole(rt, name, parts::with_message(parts::started(), 0, m))
 }
 
-pub(crate) fn with_signal(name: &[u8], row: u8, x: Signal) {
-    whole(name, parts::with_signal(parts::started(), row, x));
+pub(crate) fn with_signal(rt: &impl Print, name: &[u8], row: u8, x: Signal) -> io::Result<()> {
+    whole(rt, name, parts::with_signal(parts::started(), row, x))
 }
 
-fn step_run(n: Node) {
+fn step_run(rt: &impl Print, n: Node) -> io::Result<()> {
     let s = Step {
         kind: 0,
         owner: ProcessNumber(1),
         from: ProcessNumber(0),
     };
     let r = engine::step(n, s);
-    show::one(b"step=", r.refusal as u64);
+    show::one(rt, b"step=", r.refusal as u64)
 }
 
-fn suggestion(n: Node) {
+fn suggestion(rt: &impl Print, n: Node) -> io::Result<()> {
     let s = engine::suggest(n);
     match s {
-        Suggestion::Unsound => {
-            io::write_all(1, b"suggest=31\n");
-        }
-        Suggestion::Next(_) => {
-            io::write_all(1, b"suggest=step\n");
-        }
-        Suggestion::Nothing => {
-            io::write_all(1, b"suggest=none\n");
-        }
+        Suggestion::Unsound => rt.write_all(b"suggest=31\n"),
+        Suggestion::Next(_) => rt.write_all(b"suggest=step\n"),
+        Suggestion::Nothing => rt.write_all(b"suggest=none\n"),
     }
 }

@@ -1,30 +1,31 @@
 // How a case is reached and printed.
 use engine::Played;
 use node::Node;
+use std::io;
 
 // What a play tells, and the listing.
-pub(crate) fn played(r: Played) {
-    one(b"accepted=", r.accepted as u64);
-    one(b"refused=", r.refusal as u64);
-    listed(r.node);
+pub(crate) fn played(rt: &impl Print, r: Played) -> io::Result<()> {
+    one(rt, b"accepted=", r.accepted as u64)?;
+    one(rt, b"refused=", r.refusal as u64)?;
+    listed(rt, r.node)
 }
 
 // A play of `run 1`.
-pub(crate) fn run(n: Node) {
+pub(crate) fn run(rt: &impl Print, n: Node) -> io::Result<()> {
     let numbers = [256u32];
-    told(n, &numbers);
+    told(rt, n, &numbers)
 }
 
 // A play of `timeout 1`.
-pub(crate) fn timeout(n: Node) {
+pub(crate) fn timeout(rt: &impl Print, n: Node) -> io::Result<()> {
     let numbers = [131328u32];
-    told(n, &numbers);
+    told(rt, n, &numbers)
 }
 
 // What a play tells, in a line.
-pub(crate) fn told(n: Node, numbers: &[u32]) {
+pub(crate) fn told(rt: &impl Print, n: Node, numbers: &[u32]) -> io::Result<()> {
     let r = engine::play(n, numbers);
-    two(b"play=", r.accepted as u64, r.refusal as u64);
+    two(rt, b"play=", r.accepted as u64, r.refusal as u64)
 }
 
 // The node that a plan and steps lead to.
@@ -37,25 +38,25 @@ pub(crate) fn reached(plan: &[u8], steps: &[u8]) -> Node {
 }
 
 // The listing of a node, or `list=` with its refusal.
-pub(crate) fn listed(n: Node) {
+pub(crate) fn listed(rt: &impl Print, n: Node) -> io::Result<()> {
     let mut out = [0u8; 40000];
-    listed_in(n, &mut out);
+    listed_in(rt, n, &mut out)
 }
 
-fn listed_in(n: Node, out: &mut [u8]) {
+fn listed_in(rt: &impl Print, n: Node, out: &mut [u8]) -> io::Result<()> {
     let told = listing::list(n, out);
     if told.number != 0 {
-        two(b"list=", told.number as u64, told.length as u64);
-        return;
+        return two(rt, b"list=", told.number as u64, told.length as u64);
     }
-    write_first(out, told.length);
+    write_first(rt, out, told.length)
 }
 
 // The first bytes of a buffer; nothing where it has not so many.
-pub(crate) fn write_first(out: &[u8], length: usize) {
+pub(crate) fn write_first(rt: &impl Print, out: &[u8], length: usize) -> io::Result<()> {
     if length <= out.len() {
-        io::write_all(1, &out[..length]);
+        rt.write_all(&out[..length])?;
     }
+    Ok(())
 }
 
 fn play_of(n: Node, numbers: &[u32; 4096], count: usize) -> Played {
@@ -71,24 +72,24 @@ fn play_first(n: Node, numbers: &[u32], count: usize) -> Played {
 }
 
 // The name of a case.
-pub(crate) fn title(name: &[u8]) {
-    io::write_all(1, b"== ");
-    io::write_all(1, name);
-    io::write_all(1, b"\n");
+pub(crate) fn title(rt: &impl Print, name: &[u8]) -> io::Result<()> {
+    rt.write_all(b"== ")?;
+    rt.write_all(name)?;
+    rt.write_all(b"\n")
 }
 
 // A line with a key and a number.
-pub(crate) fn one(key: &[u8], n: u64) {
-    io::write_all(1, key);
-    io::print_decimal(1, n);
-    io::write_all(1, b"\n");
+pub(crate) fn one(rt: &impl Print, key: &[u8], n: u64) -> io::Result<()> {
+    rt.write_all(key)?;
+    rt.print(n)?;
+    rt.write_all(b"\n")
 }
 
 // A line with a key and two numbers.
-pub(crate) fn two(key: &[u8], n: u64, m: u64) {
-    io::write_all(1, key);
-    io::print_decimal(1, n);
-    io::write_all(1, b",");
-    io::print_decimal(1, m);
-    io::write_all(1, b"\n");
+pub(crate) fn two(rt: &impl Print, key: &[u8], n: u64, m: u64) -> io::Result<()> {
+    rt.write_all(key)?;
+    rt.print(n)?;
+    rt.write_all(b",")?;
+    rt.print(m)?;
+    rt.write_all(b"\n")
 }

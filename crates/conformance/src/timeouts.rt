@@ -3,12 +3,13 @@
 use super::parts::{AT_CLAUSE, AT_JUMP};
 use super::{calls, codes, holds, parts, refused, show};
 use node::{Node, Op};
+use std::io;
 
-pub(crate) fn all() {
-    placed();
-    targets();
-    led_to();
-    past_the_code();
+pub(crate) fn all(rt: &impl Print) -> io::Result<()> {
+    placed(rt)?;
+    targets(rt)?;
+    led_to(rt)?;
+    past_the_code(rt)
 }
 
 fn after(target: u8) -> Op {
@@ -16,12 +17,22 @@ fn after(target: u8) -> Op {
 }
 
 // Directly behind the last clause of a recv, and nowhere else; no process stands at one.
-fn placed() {
-    holds::with_op(b"sound: an after behind the last clause", AT_JUMP, after(0));
-    refused::with_op(b"31 an after in the place of a clause", AT_CLAUSE, after(0));
-    refused::whole(b"31 a stray after", stray());
-    refused::whole(b"31 a second after", with_last(after(4)));
-    refused::whole(b"31 a place on an after", standing_on_it());
+fn placed(rt: &impl Print) -> io::Result<()> {
+    holds::with_op(
+        rt,
+        b"sound: an after behind the last clause",
+        AT_JUMP,
+        after(0),
+    )?;
+    refused::with_op(
+        rt,
+        b"31 an after in the place of a clause",
+        AT_CLAUSE,
+        after(0),
+    )?;
+    refused::whole(rt, b"31 a stray after", stray())?;
+    refused::whole(rt, b"31 a second after", with_last(after(4)))?;
+    refused::whole(rt, b"31 a place on an after", standing_on_it())
 }
 
 // A code of one op, with the process at its end.
@@ -58,28 +69,31 @@ fn standing_on_it() -> Node {
 }
 
 // Its own target is 0 to N, and on no part of a recv.
-fn targets() {
-    holds::with_op(b"sound: an after to the end", AT_JUMP, after(3));
-    refused::with_op(b"31 an after past the end", AT_JUMP, after(4));
-    refused::with_op(b"31 an after to a clause", AT_JUMP, after(1));
-    refused::with_op(b"31 an after to itself", AT_JUMP, after(2));
+fn targets(rt: &impl Print) -> io::Result<()> {
+    holds::with_op(rt, b"sound: an after to the end", AT_JUMP, after(3))?;
+    refused::with_op(rt, b"31 an after past the end", AT_JUMP, after(4))?;
+    refused::with_op(rt, b"31 an after to a clause", AT_JUMP, after(1))?;
+    refused::with_op(rt, b"31 an after to itself", AT_JUMP, after(2))
 }
 
 // No other target leads to one.
-fn led_to() {
+fn led_to(rt: &impl Print) -> io::Result<()> {
     holds::whole(
+        rt,
         b"sound: a jump behind an after",
         with_last(codes::with_target(12, 0)),
-    );
+    )?;
     refused::whole(
+        rt,
         b"31 a jump to an after",
         with_last(codes::with_target(12, 2)),
-    );
+    )?;
     refused::whole(
+        rt,
         b"31 a same to an after",
         with_last(codes::with_target(13, 2)),
-    );
-    refused::whole(b"31 a clause that leads to an after", with_clause_to(2));
+    )?;
+    refused::whole(rt, b"31 a clause that leads to an after", with_clause_to(2))
 }
 
 fn with_clause_to(target: u8) -> Node {
@@ -89,9 +103,9 @@ fn with_clause_to(target: u8) -> Node {
 }
 
 // What stands in the array behind the last op of a code is no part of it.
-fn past_the_code() {
-    show::title(b"28 an after past the end of the code");
+fn past_the_code(rt: &impl Print) -> io::Result<()> {
+    show::title(rt, b"28 an after past the end of the code")?;
     let mut n = calls::receiving();
     n.ops[2] = after(0);
-    show::timeout(n);
+    show::timeout(rt, n)
 }

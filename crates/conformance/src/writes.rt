@@ -1,105 +1,137 @@
 // Plans written into a buffer that is filled with `#`: each kind of 31, 30, an exact fit, the bytes behind, and what is not looked at.
 use super::{codes, show};
 use node::{BehaviourNumber, Behaviours, Node, Op, ProcessNumber, Start, Starts};
+use std::io;
 
-pub(crate) fn all() {
-    rooms();
-    counts();
-    lengths();
-    ops();
-    places();
-    start_counts();
-    start_numbers();
-    start_orders();
-    unread();
-    whole();
-    stages();
+pub(crate) fn all(rt: &impl Print) -> io::Result<()> {
+    rooms(rt)?;
+    counts(rt)?;
+    lengths(rt)?;
+    ops(rt)?;
+    places(rt)?;
+    start_counts(rt)?;
+    start_numbers(rt)?;
+    start_orders(rt)?;
+    unread(rt)?;
+    whole(rt)?;
+    stages(rt)
 }
 
 // The text has 116 bytes; 31 is looked at before 30.
-fn rooms() {
-    write(b"115 bytes for 116", behaviours(), starts(), 115);
-    write(b"116 bytes for 116", behaviours(), starts(), 116);
-    write(b"121 bytes for 116", behaviours(), starts(), 121);
-    write(b"no byte for 116", behaviours(), starts(), 0);
-    write(b"31 in no byte", with_count(0), starts(), 0);
+fn rooms(rt: &impl Print) -> io::Result<()> {
+    write(rt, b"115 bytes for 116", behaviours(), starts(), 115)?;
+    write(rt, b"116 bytes for 116", behaviours(), starts(), 116)?;
+    write(rt, b"121 bytes for 116", behaviours(), starts(), 121)?;
+    write(rt, b"no byte for 116", behaviours(), starts(), 0)?;
+    write(rt, b"31 in no byte", with_count(0), starts(), 0)
 }
 
 // 1 to 8 behaviours.
-fn counts() {
-    refused(b"31 no behaviour", with_count(0), starts());
-    refused(b"31 9 behaviours", with_count(9), starts());
-    refused(b"31 255 behaviours", with_count(255), starts());
-    refused(b"31 a third behaviour of no ops", with_count(3), starts());
+fn counts(rt: &impl Print) -> io::Result<()> {
+    refused(rt, b"31 no behaviour", with_count(0), starts())?;
+    refused(rt, b"31 9 behaviours", with_count(9), starts())?;
+    refused(rt, b"31 255 behaviours", with_count(255), starts())?;
+    refused(
+        rt,
+        b"31 a third behaviour of no ops",
+        with_count(3),
+        starts(),
+    )
 }
 
 // 1 to 32 ops.
-fn lengths() {
-    refused(b"31 no op", with_length(0), starts());
-    refused(b"31 33 ops", with_length(33), starts());
-    refused(b"31 255 ops", with_length(255), starts());
+fn lengths(rt: &impl Print) -> io::Result<()> {
+    refused(rt, b"31 no op", with_length(0), starts())?;
+    refused(rt, b"31 33 ops", with_length(33), starts())?;
+    refused(rt, b"31 255 ops", with_length(255), starts())
 }
 
 // Numbers in their range.
-fn ops() {
-    refused(b"31 no op's number", with_first(codes::plain(19)), starts());
+fn ops(rt: &impl Print) -> io::Result<()> {
     refused(
+        rt,
+        b"31 no op's number",
+        with_first(codes::plain(19)),
+        starts(),
+    )?;
+    refused(
+        rt,
         b"31 a jump past the end",
         with_first(codes::with_target(12, 4)),
         starts(),
-    );
+    )?;
     refused(
+        rt,
         b"31 a trap flag of 2",
         with_first(codes::with_small(8, 2)),
         starts(),
-    );
+    )
 }
 
 // Clauses and targets where they belong.
-fn places() {
-    refused(b"31 a stray clause", with_first(codes::plain(11)), starts());
+fn places(rt: &impl Print) -> io::Result<()> {
     refused(
+        rt,
+        b"31 a stray clause",
+        with_first(codes::plain(11)),
+        starts(),
+    )?;
+    refused(
+        rt,
         b"31 a recv without its clauses",
         with_first(codes::with_small(10, 1)),
         starts(),
-    );
+    )?;
     refused(
+        rt,
         b"31 a jump to a clause",
         with_first(codes::with_target(12, 2)),
         starts(),
-    );
+    )
 }
 
 // 1 to 16 starts.
-fn start_counts() {
-    refused(b"31 no start", behaviours(), with_starts(0));
-    refused(b"31 17 starts", behaviours(), with_starts(17));
-    refused(b"31 255 starts", behaviours(), with_starts(255));
+fn start_counts(rt: &impl Print) -> io::Result<()> {
+    refused(rt, b"31 no start", behaviours(), with_starts(0))?;
+    refused(rt, b"31 17 starts", behaviours(), with_starts(17))?;
+    refused(rt, b"31 255 starts", behaviours(), with_starts(255))
 }
 
-fn start_numbers() {
-    refused(b"31 a start of process 0", behaviours(), with_start(0, 1));
-    refused(b"31 a start of process 17", behaviours(), with_start(17, 1));
+fn start_numbers(rt: &impl Print) -> io::Result<()> {
     refused(
+        rt,
+        b"31 a start of process 0",
+        behaviours(),
+        with_start(0, 1),
+    )?;
+    refused(
+        rt,
+        b"31 a start of process 17",
+        behaviours(),
+        with_start(17, 1),
+    )?;
+    refused(
+        rt,
         b"31 a start of behaviour 0",
         behaviours(),
         with_start(15, 0),
-    );
+    )?;
     refused(
+        rt,
         b"31 a start of behaviour 3 of 2",
         behaviours(),
         with_start(15, 3),
-    );
+    )
 }
 
 // The second start is that of process 16.
-fn start_orders() {
-    refused(b"31 starts 16 and 16", behaviours(), with_start(16, 1));
-    written(b"starts 15 and 16", behaviours(), with_start(15, 2));
+fn start_orders(rt: &impl Print) -> io::Result<()> {
+    refused(rt, b"31 starts 16 and 16", behaviours(), with_start(16, 1))?;
+    written(rt, b"starts 15 and 16", behaviours(), with_start(15, 2))
 }
 
 // Fields that are no operands, an op past the length, a behaviour and starts past their counts.
-fn unread() {
+fn unread(rt: &impl Print) -> io::Result<()> {
     let mut b = behaviours();
     b.ops[32].s = 200;
     b.ops[32].target = 200;
@@ -110,17 +142,17 @@ fn unread() {
         process: ProcessNumber(1),
         behaviour: BehaviourNumber(200),
     };
-    written(b"what is not looked at", b, s);
+    written(rt, b"what is not looked at", b, s)
 }
 
 // Every op, every kind of a clause, values at their limits.
-fn whole() {
+fn whole(rt: &impl Print) -> io::Result<()> {
     let n = every_op();
-    write(b"every op", n.behaviours(), n.starts(), 530);
+    write(rt, b"every op", n.behaviours(), n.starts(), 530)
 }
 
 // A process that is gone is no start.
-fn stages() {
+fn stages(rt: &impl Print) -> io::Result<()> {
     let n = show::reached(
         b"plan=1
 behaviours=1
@@ -134,35 +166,49 @@ start=4,1
 run=3
 ",
     );
-    written(b"a gone process", n.behaviours(), n.starts());
+    written(rt, b"a gone process", n.behaviours(), n.starts())
 }
 
-fn refused(name: &[u8], b: Behaviours, s: Starts) {
-    write(name, b, s, 10);
+fn refused(rt: &impl Print, name: &[u8], b: Behaviours, s: Starts) -> io::Result<()> {
+    write(rt, name, b, s, 10)
 }
 
-fn written(name: &[u8], b: Behaviours, s: Starts) {
-    write(name, b, s, 120);
+fn written(rt: &impl Print, name: &[u8], b: Behaviours, s: Starts) -> io::Result<()> {
+    write(rt, name, b, s, 120)
 }
 
-fn write(name: &[u8], b: Behaviours, s: Starts, room: usize) {
+fn write(rt: &impl Print, name: &[u8], b: Behaviours, s: Starts, room: usize) -> io::Result<()> {
     let mut out = [b'#'; 530];
-    write_in(name, b, s, &mut out, room);
+    write_in(rt, name, b, s, &mut out, room)
 }
 
-fn write_in(name: &[u8], b: Behaviours, s: Starts, out: &mut [u8], room: usize) {
+fn write_in(
+    rt: &impl Print,
+    name: &[u8],
+    b: Behaviours,
+    s: Starts,
+    out: &mut [u8],
+    room: usize,
+) -> io::Result<()> {
     if room <= out.len() {
-        write_part(name, b, s, &mut out[..room]);
+        write_part(rt, name, b, s, &mut out[..room])?;
     }
+    Ok(())
 }
 
 // What the writer tells, and the buffer.
-fn write_part(name: &[u8], b: Behaviours, s: Starts, out: &mut [u8]) {
+fn write_part(
+    rt: &impl Print,
+    name: &[u8],
+    b: Behaviours,
+    s: Starts,
+    out: &mut [u8],
+) -> io::Result<()> {
     let told = plan_writer::write_plan(b, s, out);
-    io::write_all(1, name);
-    show::two(b" ", told.number as u64, told.length as u64);
-    io::write_all(1, out);
-    io::write_all(1, b"|\n");
+    rt.write_all(name)?;
+    show::two(rt, b" ", told.number as u64, told.length as u64)?;
+    rt.write_all(out)?;
+    rt.write_all(b"|\n")
 }
 
 fn started() -> Node {

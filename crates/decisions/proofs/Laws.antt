@@ -1,14 +1,12 @@
 -- Two values by whether both are integers; the process that a value names; what the last arm of a match knows; an op by its number; what is said
 -- of a process with messages; the lowest link and watcher. Assumes nothing.
-use mathlib.Core.Bool.{Bool, true, false, cond, ◌&&◌, false≢true}
+use mathlib.Core.Bool.{true, false}
 use mathlib.Core.List.{List, []}
 use mathlib.Core.Option.{Option, none, some}
 use mathlib.Core.Path.{◌≡◌, refl, sym, ◌∙◌, ap}
-use Prim.Native.Nat.{ℕ, zero, suc, ◌+◌, ◌-◌, ◌≤◌, ◌<◌, min}
-use native.Mathlib.Decide.{ℕ_discrete}
+use Prim.Native.Nat.{ℕ, zero, suc, ◌≤◌, ◌<◌}
 use native.Mathlib.Omega.{arith}
-use borrow.Author.Tests.{ltb-true, ltb-false, lt-leb, le-leb, lt-ltb, le-ltb}
-use lib.Dec.{ltb}
+use borrow.Author.Tests.{lt-leb, le-leb, lt-ltb, le-ltb}
 use lib.IntN.{ℤ}
 use lib.ListN.{length, get_or, replicate, length-set, length-replicate, get_or-eq_default}
 use lib.Seq.{get_or-set_same}
@@ -22,7 +20,7 @@ use Rattle.node.specs.declared.Stage.{Stage}
 use Rattle.node.specs.Mailboxes.{no_message}
 use Rattle.node.specs.Nodes.{no_op}
 use Rattle.node.specs.Ops.{op_count}
-use Rattle.node.specs.Processes.{register, unlinked, unwatched, ended}
+use Rattle.node.specs.Processes.{unlinked, unwatched, ended}
 use Rattle.node.specs.declared.Value.{Value}
 use Rattle.node.specs.declared.Value.TheVariants.{Int, Atom, Pid}
 use Rattle.node.specs.Values.{normal}

@@ -3,32 +3,34 @@
 
 ghost use Rattle.std.specs.Prelude.{◌≤◌, length};
 
-// The file's first bytes, as far as the buffer reaches; a file that can't be opened, or of which a read fails, counts as empty. No
-// contract can say what a file holds: that the count lies within the buffer is all that is known of it.
-pub fn read_file(path: &[u8], buffer: &mut [u8]) -> usize
+use std::io::Read;
+use std::rt::Files;
+use std::{fs, str};
+
+// The file's first bytes, as far as the buffer reaches; a file that can't be opened, or of which a read fails, counts as empty. A path that
+// is not UTF-8 can't be opened. No contract can say what a file holds: that the count lies within the buffer is all that is known of it.
+pub fn read_file<R: Files>(rt: &R, path: &[u8], buffer: &mut [u8]) -> usize
     ensures { result ≤ length buffer.new }
 {
-    let file = os::open_read(path);
-    if file < 0 {
+    let Ok(path) = str::from_utf8(path) else {
         return 0;
-    }
-    let n = read_open(file, buffer);
-    libc::close(file);
-    n
+    };
+    let Ok(mut file) = fs::open(rt, path) else {
+        return 0;
+    };
+    read_open(&mut file, buffer)
 }
 
-// A read gives some bytes, as many as there are just then, 0 at the end of the file, or -1. Bytes before a read that fails are not
-// counted: the text would be cut. `io::read_full` does not tell such a read from the end.
-fn read_open(file: i32, buffer: &mut [u8]) -> usize
+// A read gives some bytes, as many as there are just then, 0 at the end of the file, or an error. Bytes before a read that fails are not
+// counted: the text would be cut.
+fn read_open<F: Read>(file: &mut F, buffer: &mut [u8]) -> usize
     ensures { result ≤ length buffer.new }
 {
     let mut done = 0;
     while done < buffer.len() {
-        let got = libc::read(file, &mut buffer[done..]);
-        if got < 0 {
+        let Ok(n) = file.read(&mut buffer[done..]) else {
             return 0;
-        }
-        let n = io::count(got, &buffer[done..]);
+        };
         if n == 0 {
             return done;
         }

@@ -25,7 +25,8 @@ use Rattle.rules.specs.Run.{runs, runs_live, runs_op}
 use Rattle.rules.specs.Steps.{run, arrive, play, played, step, rule, ready, commit, incoming, decide, numbered, owner_born, signal_waits, pair_has_room, number_free}
 use Rattle.text.specs.Values.{number_text, value_text}
 use Rattle.text.specs.Writing.{digits_in, digits, int_text, number_line, each}
-use Rattle.listing_lines.specs.Lines.{value_line, each_from, members, with_commas, set_line, set_lines, register_line, sender_line, message_line, standing_lines, standing_text, signal_line, flight_line, pair_text}
+use Rattle.listing_lines.specs.Lines.{value_line, each_from, members, with_commas, set_line, set_lines, register_line}
+use Rattle.listing_lines.specs.Lines.{sender_line, message_line, standing_lines, standing_text, signal_line, flight_line, pair_text}
 use Rattle.listing.specs.Listing.{rows_text, listing_text, listing_of}
 
 -- after run=1 three times, arrive=2,1, run=2

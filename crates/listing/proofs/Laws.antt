@@ -12,7 +12,7 @@ use native.Mathlib.Omega.{arith}
 use borrow.Author.Tests.{lt-ltb, le-ltb, ltb-false}
 use lib.Dec.{ltb}
 use lib.ListN.{length, drop}
-use lib.Seq.{sets, sets-eq}
+use lib.Seq.{sets-eq}
 use Rattle.text.proofs.Writing.{wrote_whole, counted_length}
 use Rattle.text.specs.Writing.{top, Wrote}
 use Rattle.listing.specs.Answers.{output_short, refused_with, told, shown, known_told, known_shown}

@@ -37,9 +37,10 @@ use Rattle.node.specs.Values.{numbers, is_number, fits_int, value_sound, message
 use Rattle.text.proofs.Digits.{digits_length}
 use Rattle.text.specs.Values.{value_text, number_text}
 use Rattle.text.specs.Writing.{digits, int_text, line_end, number_line, each}
-use Rattle.listing_lines.specs.Lines.{comma, value_line, each_from, flag, joins_if, members, with_commas, set_line, set_lines, register_line, sender_line, message_line, mail_of}
+use Rattle.listing_lines.specs.Lines.{comma, value_line, each_from, flag, joins_if, members, with_commas, set_line, set_lines, register_line, sender_line, message_line}
 use Rattle.listing_lines.specs.Lines.{standing_lines, standing_text, signal_line, flight_line, pair_text}
-use Rattle.listing_lines.specs.Words.{process_key, live_line, closing_line, gone_line, behaviour_key, place_key, trap_key, links_key, watches_key, watchers_key, reason_key, mail_key, message_key, note_key}
+use Rattle.listing_lines.specs.Words.{process_key, live_line, closing_line, gone_line, behaviour_key, place_key, trap_key}
+use Rattle.listing_lines.specs.Words.{links_key, watches_key, watchers_key, reason_key, mail_key, message_key, note_key}
 use Rattle.listing_lines.specs.Words.{down_key, flight_key, msg_key, exit_key, link_line, unlink_line, monitor_line, demonitor_line, down_signal_key}
 
 pub record Within (s : List ℕ) (k : ℕ) : Type 0 where

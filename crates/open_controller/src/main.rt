@@ -7,7 +7,6 @@ ghost use Rattle.controller.specs.Program.{program_text, longest_answer};
 ghost use Rattle.open_controller.specs.Answers.{Whole};
 
 use files::read_file;
-use libc::{STDERR_FILENO, STDOUT_FILENO};
 
 // The longest texts, each with one byte more, so that a text past its limit is seen to be.
 const PLAN: usize = 16385;
@@ -17,18 +16,15 @@ const STEPS: usize = 61441;
 // No answer is longer (`longest_answer`).
 const OUTPUT: usize = 45056;
 
-fn main() {
+fn main(rt: HostRuntime) {
     let mut plan = [0u8; PLAN];
-    let p = read_file(b"plan.txt", &mut plan);
+    let p = read_file(&rt, b"plan.txt", &mut plan);
     let mut steps = [0u8; STEPS];
-    let s = read_file(b"steps.txt", &mut steps);
+    let s = read_file(&rt, b"steps.txt", &mut steps);
     let mut out = [0u8; OUTPUT];
     let n = answer(&plan[..p], &steps[..s], &mut out);
-    if !io::write_all(STDOUT_FILENO, &out[..n]) {
-        io::write_all(
-            STDERR_FILENO,
-            b"open_controller: the answer could not be written\n",
-        );
+    if rt.write_all(&out[..n]).is_err() {
+        let _ = eprintln!(rt; "open_controller: the answer could not be written");
     }
 }
 

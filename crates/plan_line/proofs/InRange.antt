@@ -217,7 +217,8 @@ module _ (c n : ℕ) where
           let kept = operands_kept (bare k) (kinds_of k) ls size (distinct_kinds k) e in
           (rw is h, subst (λ (j : ℕ). So (all_of (fitting (operands_of c n (bare k) (kinds_of k) ls).op) (kinds_of j))) (sym is) kept)
 
-  pub op_kept : (line : List ℕ) → (op_told c n line).refusal ≡ 0 → ((op_told c n line).op.number < op_count) × So (all_of (λ (k : OperandKind). operand_in_range c n k (operand (op_told c n line).op k))
+  pub op_kept : (line : List ℕ) → (op_told c n line).refusal ≡ 0 → ((op_told c n line).op.number < op_count) × So
+      (all_of (λ (k : OperandKind). operand_in_range c n k (operand (op_told c n line).op k))
       (kinds_of (op_told c n line).op.number))
   unfolding op_told coded_of
   op_kept line = go (starts_with op_key line)

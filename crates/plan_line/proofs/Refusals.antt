@@ -59,7 +59,8 @@ value_told [] = omega arith
 value_told (b ∷ l) = go (eqb b (code "i")) (eqb b (code "a")) (eqb b (code "p"))
   where
     go : (x y z : Bool)
-        → (cond x (int_of (number_of l)) (cond y (ranged_value Atom (ranged_of (number_of l) 0 255)) (cond z (ranged_value pid (ranged_of (number_of l) 1 16)) (no_value malformed)))).refusal ≤ out_of_range
+        → (cond x (int_of (number_of l)) (cond y (ranged_value Atom (ranged_of (number_of l) 0 255))
+        (cond z (ranged_value pid (ranged_of (number_of l) 1 16)) (no_value malformed)))).refusal ≤ out_of_range
     go true y z = int_told l
     go false true z = (ranged_kept l 0 255).told
     go false false true = (ranged_kept l 1 16).told

@@ -31,7 +31,8 @@ use Rattle.rules.specs.Answers.{Answer, refused, done, need, mailbox_full, mailb
 use Rattle.rules.specs.Arrive.{joins_with, received, notes, exits, downs, takes, is_monitor, answers, arrives_in, arrives}
 use Rattle.rules.specs.Effects.{State, Effect, joining, becomes, ends, sends}
 use Rattle.rules.specs.Receive.{Fit, search, first_fit, fit, answered, receives_by, receives}
-use Rattle.rules.specs.Run.{sets_register, jumps_if, integer_in, on_integers, sets_sum, adds, compares, process_in, to_process, sends_to, to_other, runs_op, closes_to, closes, runs_live, runs_in, runs}
+use Rattle.rules.specs.Run.{sets_register, jumps_if, integer_in, on_integers, sets_sum, adds, compares, process_in}
+use Rattle.rules.specs.Run.{to_process, sends_to, to_other, runs_op, closes_to, closes, runs_live, runs_in, runs}
 use Rattle.rules.specs.Steps.{is_unborn}
 use Rattle.rules.specs.Timeout.{behind_clauses, at_after, expires_if, expires_live, expires_in, expires}
 use Rattle.rules.proofs.All.{both}

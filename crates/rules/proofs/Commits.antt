@@ -158,7 +158,8 @@ abbrev pub RowsOk : Shelf Cell → Type 0
 RowsOk s = (j i : ℕ) → So (is_number j) → So (is_number i) → RowOk j i (row_in s j i)
 
 -- one row changed where it stands
-changed_ok : (f : Block Cell → Block Cell) → Keeping f → (s : Shelf Cell) → SizedRows s → (l m : ℕ) → RowsOk s → So (is_number l) → So (is_number m) → RowOk l m (signals (f (block_of 4 (pair l m) s))) →
+changed_ok : (f : Block Cell → Block Cell) → Keeping f → (s : Shelf Cell) → SizedRows s → (l m : ℕ) → RowsOk s → So (is_number l) → So (is_number m) → RowOk l m
+    (signals (f (block_of 4 (pair l m) s))) →
     RowsOk (changed 4 f (pair l m) s)
 changed_ok f keeps s z l m ok a b h j i c d = go (ℕ_discrete (pair j i) (pair l m))
   where

@@ -28,7 +28,8 @@ use Rattle.rules.specs.Behaviours.{Instruction}
 use Rattle.rules.specs.Effects.{MailChange, unchanged, joining, leaving, Effect, Sending, Birth}
 use Rattle.rules.specs.Nodes.{behaviours_of, code, process, mailbox, row}
 use Rattle.rules.specs.Run.{runs}
-use Rattle.rules.specs.Steps.{Action, run, arrive, timeout, owner, is_unborn, with_arrival, with_sending, with_mail, without_mail, with_birth, commit, numbered, owner_born, signal_waits, pair_has_room}
+use Rattle.rules.specs.Steps.{Action, run, arrive, timeout, owner, is_unborn, with_arrival, with_sending}
+use Rattle.rules.specs.Steps.{with_mail, without_mail, with_birth, commit, numbered, owner_born, signal_waits, pair_has_room}
 use Rattle.rules.specs.Timeout.{expires}
 use Rattle.rules.specs.Steps.{number_free, incoming, decide}
 use Rattle.rules.proofs.Accepted.{Act}

@@ -76,7 +76,8 @@ pub timeouts : Timeouts
 unfolding rule ready numbered owner_born signal_waits decide pair_has_room number_free commit
 timeouts n i sound = step_rule n (timeout i) sound ∙ numbers (is_number i) refl
   where
-    numbers : (b : Bool) → is_number i ≡ b → rule n (timeout i) ≡ need b bad_number (need (not (is_unborn (process n i).stage)) owner_unborn (need (may_expire n i) no_timeout (done (expired_node n i))))
+    numbers : (b : Bool) → is_number i ≡ b → rule n (timeout i) ≡ need b bad_number
+        (need (not (is_unborn (process n i).stage)) owner_unborn (need (may_expire n i) no_timeout (done (expired_node n i))))
     numbers false e = rw e
     numbers true e = born (is_unborn (process n i).stage) refl
       where

@@ -127,7 +127,8 @@ module _ (codes : List (List Instruction)) (i : ℕ) (ops : List Op) (st : State
   not_clause = or_left (is_clause (instruction o)) (is_after (instruction o)) (not-true _ (rw (g.same, there) at g.alive.placed.off))
 
   -- operand j of the op, by its kind
-  operand_good : (n j : ℕ) → o.number ≡ n → j < length (kinds_of n) → So (operand_in_range (length codes) (length whole) (get_or (kinds_of n) j NoOperand) (operand o (get_or (kinds_of n) j NoOperand)))
+  operand_good : (n j : ℕ) → o.number ≡ n → j < length (kinds_of n) → So (operand_in_range (length codes) (length whole) (get_or (kinds_of n) j NoOperand)
+      (operand o (get_or (kinds_of n) j NoOperand)))
   operand_good = in_range_lem (length codes) ops checked t g.inside o g.here
 
   register_good : (k : ℕ) → So (value_sound (register p k))

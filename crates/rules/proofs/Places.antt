@@ -63,7 +63,8 @@ module _ (c : ℕ) (code : List Instruction) (h : So (code_sound c code)) where
       let f : ℕ → Instruction → Bool = λ t x. in_range c (length code) x && well_placed code t x in
       let e : 0 + t ≡ t = omega arith in
       let x = get_or code t no_instruction in
-      let w = parts (in_range c (length code) x) (well_placed code t x) (rw e at (all_from_at f 0 code t no_instruction (parts (leb 1 (length code) && leb (length code) 32) (all_from f 0 code) h).1 g)) in
+      let w = parts (in_range c (length code) x) (well_placed code t x) (rw e at
+      (all_from_at f 0 code t no_instruction (parts (leb 1 (length code) && leb (length code) 32) (all_from f 0 code) h).1 g)) in
       (w.0, well_placed_lem code t x w.1)
 
   -- where no part of a recv may stand, none does
@@ -104,7 +105,8 @@ module _ (c : ℕ) (ops : List Op) (checked : So (code_sound c (map instruction 
   unfolding in_range instruction
   in_range_lem n j e h =
       let w : So (all_two (operand_in_range c (length code)) (kinds_of o.number) (map (operand o) (kinds_of o.number))) = (parts (ltb o.number op_count) _ facts.0).1 in
-      all_two_at (operand_in_range c (length code)) (operand o) NoOperand (kinds_of n) (subst (λ (x : ℕ). So (all_two (operand_in_range c (length code)) (kinds_of x) (map (operand o) (kinds_of x)))) e w) j h
+      all_two_at (operand_in_range c (length code)) (operand o) NoOperand (kinds_of n)
+      (subst (λ (x : ℕ). So (all_two (operand_in_range c (length code)) (kinds_of x) (map (operand o) (kinds_of x)))) e w) j h
 
   -- and where it is a target, it is on no part of a recv
   target_off : (n j : ℕ) → o.number ≡ n → j < length (kinds_of n) → So (target_free code (get_or (kinds_of n) j NoOperand) (operand o (get_or (kinds_of n) j NoOperand)))

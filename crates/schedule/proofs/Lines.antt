@@ -18,7 +18,8 @@ use Rattle.rules.specs.Answers.{Answer, refused, done, schedule_too_long}
 use Rattle.text.specs.Parts.{Lines, line_then, lines_of, place_from, fields_of, starts_with}
 use Rattle.text.proofs.Parts.{drop_at, tail_part, lines_at, lines_rest, lines_none, starts_long}
 use Rattle.schedule.specs.declared.Schedule.{Schedule}
-use Rattle.schedule.specs.Reading.{malformed_line, own_of, arrival_of, run_key, arrive_key, timeout_key, step_of, read_lines, first_malformed, steps_of, refused_text, accepted_steps, of_lines, schedule_of}
+use Rattle.schedule.specs.Reading.{malformed_line, own_of, arrival_of, run_key, arrive_key, timeout_key, step_of}
+use Rattle.schedule.specs.Reading.{read_lines, first_malformed, steps_of, refused_text, accepted_steps, of_lines, schedule_of}
 
 -- ---- one line
 module _ (line : List ℕ) {r : Bool} (h : r ≡ starts_with run_key line) where

@@ -3,7 +3,7 @@
 --   Front              what the loop over digits still has to store: those in front of the last ones
 --   front_all          at its start;  front_more  at each turn;  front_end  behind it, with the first digit
 --   front_wide         a number with more than one digit has some in front of the last
-use mathlib.Core.List.{List, [], ◌∷◌, ◌++◌}
+use mathlib.Core.List.{List, [], ◌∷◌}
 use mathlib.Core.Path.{◌≡◌, refl, sym, ap, ◌∙◌}
 use Prim.Native.Nat.{ℕ, suc, ◌+◌, ◌-◌, ◌/◌, ◌%◌, ◌≤◌, ◌<◌}
 use Prim.Native.Char.{code}

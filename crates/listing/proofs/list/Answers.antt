@@ -1,5 +1,4 @@
 -- `list` looks at soundness first. Assumes nothing.
-use borrow.Author.Rules.{rules}
 use Rattle.listing.proofs.Listings.{list_refused, list_allowed}
 use Rattle.listing.proofs.list.Goals as goal
 

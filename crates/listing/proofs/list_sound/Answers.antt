@@ -1,7 +1,6 @@
 -- `list_sound` writes at once into a buffer that holds the longest listing. For any other it counts the listing over an empty slice, and
 -- answers 30 or writes it. Assumes nothing.
 use native.Mathlib.Omega.{arith}
-use borrow.Author.Rules.{rules}
 use Rattle.text.proofs.Writing.{counted_short, counted_fits}
 use Rattle.listing.proofs.Laws.{told_short, told_whole, known_counted, known_whole}
 use Rattle.listing.proofs.list_sound.Goals as goal

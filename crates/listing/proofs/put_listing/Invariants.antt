@@ -1,15 +1,11 @@
 -- `put_listing` writes the processes with their messages, then the pairs with their signals. The invariants say what is left to write: of the
 -- processes or pairs, those from the next on; of the messages or signals of one, those from k on. Assumes nothing.
-use mathlib.Core.Path.{sym}
 use Prim.Native.Nat.{◌-◌}
-use native.Mathlib.Omega.{arith}
-use borrow.Author.Rules.{rules}
 use lib.ListN.{drop}
-use Rattle.text.proofs.Writing.{◌▸◌, wrote_as, wrote_length, Left, left_all, left_behind}
+use Rattle.text.proofs.Writing.{Left}
 use Rattle.text.specs.Writing.{each}
 use Rattle.listing_lines.specs.Lines.{message_line, signal_line}
-use Rattle.listing.proofs.Loops.{mail_at, row_at, processes_from, pairs_from, listing_parts, left_process, left_processes_end, left_message, left_messages_end, left_pair, left_no_pair}
-use Rattle.listing.proofs.Loops.{left_pairs_end, left_signal, left_signals_end}
+use Rattle.listing.proofs.Loops.{mail_at, row_at, processes_from, pairs_from}
 use Rattle.listing.proofs.put_listing.Given as goal
 
 abbrev pub invariant-messages : goal.invariant-messages

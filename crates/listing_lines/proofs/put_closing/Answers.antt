@@ -1,5 +1,4 @@
 -- `put_closing` writes a closing process: its stage, reason, links and watchers. Assumes nothing.
-use borrow.Author.Rules.{rules}
 use Rattle.text.proofs.Writing.{wrote_length, ◌▸◌}
 use Rattle.listing_lines.specs.Lines.{standing_lines}
 use Rattle.listing_lines.proofs.put_closing.Goals as goal

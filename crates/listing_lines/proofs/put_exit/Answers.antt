@@ -1,6 +1,5 @@
 -- `put_exit` writes an exit signal: its reason, then whether it was sent along a link. Assumes nothing.
 use mathlib.Core.Path.{ap}
-use borrow.Author.Rules.{rules}
 use Rattle.text.proofs.Writing.{wrote_length, ◌▸◌, wrote_as}
 use Rattle.text.specs.Writing.{digits}
 use Rattle.listing_lines.specs.Lines.{signal_line}

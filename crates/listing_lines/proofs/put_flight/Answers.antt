@@ -1,5 +1,4 @@
 -- `put_flight` writes the first line of a pair. Assumes nothing.
-use borrow.Author.Rules.{rules}
 use Rattle.text.proofs.Writing.{wrote_length, ◌▸◌}
 use Rattle.listing_lines.specs.Lines.{flight_line}
 use Rattle.listing_lines.proofs.put_flight.Goals as goal

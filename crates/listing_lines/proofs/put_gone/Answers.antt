@@ -1,5 +1,4 @@
 -- `put_gone` writes a gone process: only its stage. Assumes nothing.
-use borrow.Author.Rules.{rules}
 use Rattle.text.proofs.Writing.{wrote_length, ◌▸◌}
 use Rattle.listing_lines.specs.Lines.{standing_lines}
 use Rattle.listing_lines.proofs.put_gone.Goals as goal

@@ -1,6 +1,5 @@
 -- `put_live` writes a live process: its stage, then what it holds, up to its messages. Assumes nothing.
 use mathlib.Core.Path.{ap}
-use borrow.Author.Rules.{rules}
 use Rattle.text.proofs.Writing.{wrote_length, ◌▸◌, wrote_as}
 use Rattle.text.specs.Writing.{number_line}
 use Rattle.listing_lines.specs.Lines.{standing_lines}

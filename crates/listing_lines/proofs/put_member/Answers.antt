@@ -1,7 +1,6 @@
 -- `put_member` writes a member of a link set, with a comma before all but the first. Assumes nothing.
 use mathlib.Core.Path.{sym}
 use native.Mathlib.Omega.{arith}
-use borrow.Author.Rules.{rules}
 use Rattle.text.proofs.Writing.{◌▸◌, wrote_as, wrote_none}
 use Rattle.listing_lines.proofs.put_member.Goals as goal
 

@@ -1,14 +1,12 @@
 -- `put_members` writes the members of a set. The invariant: what is left to write are the members from k + 1 on,
 -- with a comma before the next where one is written. Assumes nothing.
 use Prim.Native.Nat.{◌-◌}
-use native.Mathlib.Omega.{arith}
-use borrow.Author.Rules.{rules}
 use lib.ListN.{drop}
 use Rattle.rules.specs.Nodes.{set_of}
 use Rattle.node.specs.Values.{numbers}
-use Rattle.text.proofs.Writing.{Left, left_all}
+use Rattle.text.proofs.Writing.{Left}
 use Rattle.listing_lines.specs.Lines.{members, with_commas}
-use Rattle.listing_lines.proofs.Laws.{commaed, left_member, left_members_end}
+use Rattle.listing_lines.proofs.Laws.{commaed}
 use Rattle.listing_lines.proofs.put_members.Given as goal
 
 abbrev pub invariant-loop-k : goal.invariant-loop-k

@@ -1,6 +1,5 @@
 -- `put_process` writes a process by its stage; an unborn one has no text. Assumes nothing.
 use native.Mathlib.Omega.{arith}
-use borrow.Author.Rules.{rules}
 use Rattle.text.proofs.Writing.{wrote_as, wrote_none}
 use Rattle.listing_lines.specs.Lines.{standing_lines}
 use Rattle.listing_lines.proofs.Laws.{lines_in}

@@ -1,5 +1,4 @@
 -- `put_registers` writes the four registers. Assumes nothing.
-use borrow.Author.Rules.{rules}
 use Rattle.text.proofs.Writing.{wrote_length, ◌▸◌, wrote_as}
 use Rattle.listing_lines.proofs.Laws.{registers_text}
 use Rattle.listing_lines.proofs.put_registers.Goals as goal

@@ -1,5 +1,4 @@
 -- `put_sender` writes a key, the sender with its letter, then the reason. Assumes nothing.
-use borrow.Author.Rules.{rules}
 use Rattle.text.proofs.Writing.{wrote_length, ◌▸◌}
 use Rattle.listing_lines.specs.Lines.{sender_line}
 use Rattle.listing_lines.proofs.put_sender.Goals as goal

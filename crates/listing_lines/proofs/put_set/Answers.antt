@@ -1,5 +1,4 @@
 -- `put_set` writes a key and a set of processes. Assumes nothing.
-use borrow.Author.Rules.{rules}
 use Rattle.text.proofs.Writing.{wrote_length, ◌▸◌}
 use Rattle.listing_lines.specs.Lines.{set_line}
 use Rattle.listing_lines.proofs.put_set.Goals as goal

@@ -1,5 +1,4 @@
 -- `put_sets` writes the three sets of a live process. Assumes nothing.
-use borrow.Author.Rules.{rules}
 use Rattle.text.proofs.Writing.{wrote_length, ◌▸◌}
 use Rattle.listing_lines.specs.Lines.{set_lines}
 use Rattle.listing_lines.proofs.put_sets.Goals as goal

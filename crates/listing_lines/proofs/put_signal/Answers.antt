@@ -1,6 +1,5 @@
 -- `put_signal` writes a signal by its kind. Assumes nothing.
 use mathlib.Core.Path.{sym, ap}
-use borrow.Author.Rules.{rules}
 use Rattle.text.proofs.Writing.{wrote_as}
 use Rattle.listing_lines.specs.Lines.{signal_line}
 use Rattle.listing_lines.proofs.put_signal.Goals as goal

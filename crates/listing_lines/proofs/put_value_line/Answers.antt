@@ -1,5 +1,4 @@
 -- `put_value_line` writes a key, a value and byte 10. Assumes nothing.
-use borrow.Author.Rules.{rules}
 use Rattle.text.proofs.Writing.{wrote_length, ◌▸◌}
 use Rattle.listing_lines.specs.Lines.{value_line}
 use Rattle.listing_lines.proofs.put_value_line.Goals as goal

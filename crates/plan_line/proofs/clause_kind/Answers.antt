@@ -1,6 +1,5 @@
 -- `clause_kind` gives a clause's kind. Assumes nothing.
 use mathlib.Core.Path.{ap, ◌∙◌}
-use borrow.Author.Rules.{rules}
 use borrow.Author.Tests.{lt-ltb, le-ltb}
 use Rattle.plan_line.specs.Ops.{exact, clause_kind}
 use Rattle.plan_line.proofs.Ops.{kind_place}

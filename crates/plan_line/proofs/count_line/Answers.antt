@@ -2,7 +2,6 @@
 use mathlib.Core.List.{List}
 use mathlib.Core.Path.{refl}
 use Prim.Native.Nat.{ℕ}
-use borrow.Author.Rules.{rules}
 use Rattle.text.specs.Numbers.{malformed, number_of, no_number, ranged_of}
 use Rattle.plan_line.specs.Lines.{count_told}
 use Rattle.plan_line.proofs.Keys.{key_long, key_right, key_wrong}

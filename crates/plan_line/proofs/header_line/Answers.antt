@@ -1,5 +1,4 @@
 -- `header_line` tells 11 of a line other than `plan=1`. Assumes nothing.
-use borrow.Author.Rules.{rules}
 use Rattle.plan_line.specs.Lines.{header_told}
 use Rattle.plan_line.proofs.header_line.Goals as goal
 

@@ -1,5 +1,4 @@
 -- `kind_number` gives which clause kind a word is: the table has their words. Assumes nothing.
-use borrow.Author.Rules.{rules}
 use Rattle.words.specs.Words.{packed}
 use Rattle.plan_line.proofs.kind_number.Goals as goal
 

@@ -1,5 +1,4 @@
 -- `no_code` gives what is read of a wrong word or operand count. Assumes nothing.
-use borrow.Author.Rules.{rules}
 use Rattle.plan_line.proofs.no_code.Goals as goal
 
 pub returns : goal.returns

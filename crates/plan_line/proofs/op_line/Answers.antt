@@ -1,7 +1,6 @@
 -- `op_line` gives the op of a line. Assumes nothing.
 use mathlib.Core.List.{List}
 use Prim.Native.Nat.{ℕ}
-use borrow.Author.Rules.{rules}
 use Rattle.text.specs.Parts.{fields_of}
 use Rattle.plan_line.specs.Ops.{no_code, coded_of}
 use Rattle.plan_line.specs.Lines.{op_key, op_told}

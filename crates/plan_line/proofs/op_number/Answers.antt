@@ -1,5 +1,4 @@
 -- `op_number` gives the number of an op: the table has the words of the ops. Assumes nothing.
-use borrow.Author.Rules.{rules}
 use Rattle.words.specs.Words.{packed}
 use Rattle.plan_line.proofs.op_number.Goals as goal
 

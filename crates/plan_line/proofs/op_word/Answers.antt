@@ -1,6 +1,5 @@
 -- `op_word` reads the table of the words of ops; past it there is no op. Assumes nothing.
 use native.Mathlib.Omega.{arith}
-use borrow.Author.Rules.{rules}
 use Rattle.node.specs.Ops.{op_words}
 use Rattle.words.specs.Words.{packed}
 use Rattle.words.proofs.Letters.{packed_at, packed_past}

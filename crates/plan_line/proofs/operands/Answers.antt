@@ -1,16 +1,12 @@
 -- `operands` reads each operand of an op by its kind. The invariant: what is read of the op, with the kinds and the fields that are left,
 -- gives the answer. Assumes nothing.
-use mathlib.Core.Path.{◌≡◌, refl}
-use Prim.Native.Nat.{◌≤◌, ◌-◌}
+use mathlib.Core.Path.{refl}
 use Prim.Native.Char.{code}
 use native.Mathlib.Omega.{arith}
 use borrow.Author.Rules.{rules}
-use lib.ListN.{get_or, drop}
-use Rattle.node.specs.Ops.{operand_counts, kinds_of}
 use Rattle.text.proofs.Parts.{place_after, place_inside}
-use Rattle.plan_line.specs.Ops.{FieldEnd, behind_field, op_of}
 use Rattle.plan_line.proofs.Fields.{behind_next, behind_none, end_found}
-use Rattle.plan_line.proofs.Ops.{read_left, left_all, operand_missing, operand_more, operand_surplus, operands_end}
+use Rattle.plan_line.proofs.Ops.{left_all, operand_missing, operand_more, operand_surplus, operands_end}
 use Rattle.plan_line.proofs.operands.Goals as goal
 
 pub loop-i-init : goal.loop-i-init

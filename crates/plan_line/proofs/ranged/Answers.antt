@@ -1,6 +1,5 @@
 -- `ranged` reads a number within its range. Assumes nothing.
 use mathlib.Core.Path.{ap}
-use borrow.Author.Rules.{rules}
 use Rattle.plan_line.specs.Ops.{numeric}
 use Rattle.plan_line.proofs.ranged.Goals as goal
 

@@ -1,6 +1,5 @@
 -- `read_operand` gives an operand by its kind. Assumes nothing.
 use mathlib.Core.Path.{ap, ◌∙◌}
-use borrow.Author.Rules.{rules}
 use Rattle.plan_line.specs.Ops.{exact, operand_of}
 use Rattle.plan_line.proofs.read_operand.Goals as goal
 

@@ -1,5 +1,4 @@
 -- `read_start` gives the start of a line: two numbers. Assumes nothing.
-use borrow.Author.Rules.{rules}
 use borrow.Author.Tests.{eq-eqb, ne_eqb}
 use Rattle.plan_line.specs.Lines.{start_of}
 use Rattle.plan_line.proofs.read_start.Goals as goal

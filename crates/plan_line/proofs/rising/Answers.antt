@@ -1,6 +1,5 @@
 -- `rising` gives a start, or 13 where its process is not above the last. Assumes nothing.
 use mathlib.Core.Path.{◌∙◌}
-use borrow.Author.Rules.{rules}
 use borrow.Author.Tests.{eq-eqb, ne_eqb, lt-ltb, le-ltb}
 use Rattle.plan_line.specs.Lines.{risen}
 use Rattle.plan_line.proofs.rising.Goals as goal

@@ -2,7 +2,6 @@
 use mathlib.Core.List.{List}
 use mathlib.Core.Path.{ap, ◌∙◌}
 use Prim.Native.Nat.{ℕ}
-use borrow.Author.Rules.{rules}
 use Rattle.text.specs.Numbers.{malformed}
 use Rattle.text.specs.Parts.{fields_of}
 use Rattle.plan_line.specs.Lines.{start_key, start_of, no_start, risen, start_told}

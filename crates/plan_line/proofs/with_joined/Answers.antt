@@ -1,5 +1,4 @@
 -- `with_joined` puts one operand more into what is read of an op. Assumes nothing.
-use borrow.Author.Rules.{rules}
 use Rattle.plan_line.proofs.with_joined.Goals as goal
 
 pub returns : goal.returns

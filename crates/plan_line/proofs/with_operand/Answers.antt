@@ -1,6 +1,5 @@
 -- `with_operand` puts an operand into the field of its kind; a kind that is none changes nothing. Assumes nothing.
 use mathlib.Core.Path.{◌∙◌}
-use borrow.Author.Rules.{rules}
 use Rattle.plan_line.specs.Ops.{with_operand}
 use Rattle.plan_line.proofs.with_operand.Goals as goal
 

@@ -1,7 +1,6 @@
 -- `clear` counts the bytes before the next byte 10, up to four. Assumes nothing.
 use Prim.Native.Nat.{◌+◌}
 use native.Mathlib.Omega.{arith}
-use borrow.Author.Rules.{rules}
 use lib.ListN.{drop, length-drop}
 use Rattle.text.specs.Parts.{line_byte}
 use Rattle.text.proofs.Parts.{before_hit, before_miss, before_within, place_after, place_from_lem}

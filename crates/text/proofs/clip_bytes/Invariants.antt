@@ -1,9 +1,7 @@
 -- `clip_bytes` writes a text. The invariant: what is left to write is the text from k on. Assumes nothing.
 use Prim.Native.Nat.{◌-◌}
-use native.Mathlib.Omega.{arith}
-use borrow.Author.Rules.{rules}
 use lib.ListN.{length, drop}
-use Rattle.text.proofs.Writing.{Left, left_all, left_byte, left_bytes_end}
+use Rattle.text.proofs.Writing.{Left}
 use Rattle.text.proofs.clip_bytes.Given as goal
 
 abbrev pub invariant-loop-k : goal.invariant-loop-k

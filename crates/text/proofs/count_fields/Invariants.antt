@@ -1,12 +1,8 @@
 -- `count_fields` counts the fields of a line. The invariant: n and the fields from k on give the number, one counted twice. Assumes nothing.
-use mathlib.Core.Logic.{⊎_elim}
 use mathlib.Core.Path.{◌≡◌}
 use Prim.Native.Nat.{suc, ◌+◌, ◌-◌, ◌≤◌}
-use native.Mathlib.Omega.{arith}
-use borrow.Author.Rules.{rules}
 use lib.ListN.{length, drop}
 use Rattle.text.specs.Parts.{fields_of}
-use Rattle.text.proofs.Fields.{count_comma, count_other, count_end}
 use Rattle.text.proofs.count_fields.Given as goal
 
 abbrev pub invariant-loop-k : goal.invariant-loop-k

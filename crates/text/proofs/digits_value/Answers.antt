@@ -1,12 +1,7 @@
 -- `digits_value` gives the value of digits, held at the ceiling. The invariant: n and the digits from k on give it. Assumes nothing.
-use mathlib.Core.Bool.{cond}
-use mathlib.Core.Path.{◌≡◌, refl}
-use Prim.Native.Nat.{◌-◌, ◌≤◌, min}
+use mathlib.Core.Path.{refl}
 use native.Mathlib.Omega.{arith}
 use borrow.Author.Rules.{rules}
-use lib.ListN.{length, drop}
-use Rattle.node.specs.Lists.{all_of}
-use Rattle.text.specs.Numbers.{is_digit, decimal, ceiling, no_natural, natural_of}
 use Rattle.text.proofs.Numbers.{digits_low, digits_high, digits_more, digits_end}
 use Rattle.text.proofs.digits_value.Goals as goal
 

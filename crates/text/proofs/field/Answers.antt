@@ -1,12 +1,7 @@
 -- `field` gives field k of a line. The invariant: it is the field k - n of those from the place on. Assumes nothing.
-use mathlib.Core.List.{[]}
-use mathlib.Core.Path.{◌≡◌}
-use Prim.Native.Nat.{◌-◌, ◌≤◌}
 use Prim.Native.Char.{code}
 use native.Mathlib.Nat.{sub-zero}
 use borrow.Author.Rules.{rules}
-use lib.ListN.{length, drop, get_or}
-use Rattle.text.specs.Parts.{fields_of}
 use Rattle.text.proofs.Fields.{field_here, field_next, field_none}
 use Rattle.text.proofs.Parts.{place_after, place_inside}
 use Rattle.text.proofs.field.Goals as goal

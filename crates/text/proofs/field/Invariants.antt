@@ -2,13 +2,8 @@
 use mathlib.Core.List.{[]}
 use mathlib.Core.Path.{◌≡◌}
 use Prim.Native.Nat.{◌-◌, ◌≤◌}
-use Prim.Native.Char.{code}
-use native.Mathlib.Nat.{sub-zero}
-use borrow.Author.Rules.{rules}
 use lib.ListN.{length, drop, get_or}
 use Rattle.text.specs.Parts.{fields_of}
-use Rattle.text.proofs.Fields.{field_here, field_next, field_none}
-use Rattle.text.proofs.Parts.{place_after, place_inside}
 use Rattle.text.proofs.field.Given as goal
 
 abbrev pub invariant-loop-n : goal.invariant-loop-n

@@ -1,9 +1,5 @@
 -- `find` gives the first place of a byte. The invariant: the bytes from k on give the place. Assumes nothing.
-use mathlib.Core.Path.{◌≡◌, refl}
-use Prim.Native.Nat.{◌+◌, ◌-◌}
-use borrow.Author.Rules.{rules}
-use lib.ListN.{length, drop}
-use Rattle.text.specs.Parts.{before}
+use mathlib.Core.Path.{refl}
 use Rattle.text.proofs.Parts.{place_hit, place_miss, place_none}
 use Rattle.text.proofs.find.Goals as goal
 

@@ -1,10 +1,8 @@
 -- `find` gives the first place of a byte. The invariant: the bytes from k on give the place. Assumes nothing.
-use mathlib.Core.Path.{◌≡◌, refl}
+use mathlib.Core.Path.{◌≡◌}
 use Prim.Native.Nat.{◌+◌, ◌-◌}
-use borrow.Author.Rules.{rules}
 use lib.ListN.{length, drop}
 use Rattle.text.specs.Parts.{before}
-use Rattle.text.proofs.Parts.{place_hit, place_miss, place_none}
 use Rattle.text.proofs.find.Given as goal
 
 abbrev pub invariant-loop-k : goal.invariant-loop-k

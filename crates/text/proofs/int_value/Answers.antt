@@ -1,5 +1,4 @@
 -- `int_value` gives the integer that a number is. Assumes nothing.
-use borrow.Author.Rules.{rules}
 use Rattle.text.specs.Values.{int_of}
 use Rattle.text.proofs.int_value.Goals as goal
 

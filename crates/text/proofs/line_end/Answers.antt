@@ -1,10 +1,8 @@
 -- `line_end` gives the end of a line. The invariant: the bytes from k on give it. Assumes nothing.
-use mathlib.Core.Path.{◌≡◌, refl}
-use Prim.Native.Nat.{◌+◌, ◌-◌}
+use mathlib.Core.Path.{refl}
 use native.Mathlib.Omega.{arith}
-use borrow.Author.Rules.{rules}
-use lib.ListN.{length, drop, length-drop}
-use Rattle.text.specs.Parts.{line_byte, before}
+use lib.ListN.{drop, length-drop}
+use Rattle.text.specs.Parts.{line_byte}
 use Rattle.text.proofs.Parts.{before_within, place_near, place_none, place_skip}
 use Rattle.text.proofs.line_end.Goals as goal
 

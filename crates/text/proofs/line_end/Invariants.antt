@@ -1,11 +1,8 @@
 -- `line_end` gives the end of a line. The invariant: the bytes from k on give it. Assumes nothing.
-use mathlib.Core.Path.{◌≡◌, refl}
+use mathlib.Core.Path.{◌≡◌}
 use Prim.Native.Nat.{◌+◌, ◌-◌}
-use native.Mathlib.Omega.{arith}
-use borrow.Author.Rules.{rules}
-use lib.ListN.{length, drop, length-drop}
+use lib.ListN.{length, drop}
 use Rattle.text.specs.Parts.{line_byte, before}
-use Rattle.text.proofs.Parts.{before_within, place_near, place_none, place_skip}
 use Rattle.text.proofs.line_end.Given as goal
 
 abbrev pub invariant-loop-k : goal.invariant-loop-k

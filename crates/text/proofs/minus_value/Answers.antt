@@ -1,5 +1,4 @@
 -- `minus_value` gives an integer below 0, where it is within the limits of `i`. Assumes nothing.
-use borrow.Author.Rules.{rules}
 use borrow.Author.Tests.{lt-leb}
 use Rattle.text.specs.Values.{minus_of}
 use Rattle.text.proofs.Values.{below_fits, below_casts, minus_near}

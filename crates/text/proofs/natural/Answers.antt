@@ -1,6 +1,5 @@
 -- `natural` gives the value of an unsigned number, held at the ceiling. Assumes nothing.
 use native.Mathlib.Omega.{arith}
-use borrow.Author.Rules.{rules}
 use Rattle.text.proofs.Numbers.{natural_none, natural_zero, natural_led, natural_other}
 use Rattle.text.proofs.natural.Goals as goal
 

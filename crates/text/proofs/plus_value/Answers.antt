@@ -1,5 +1,4 @@
 -- `plus_value` gives an integer that is not below 0, where it is within the limits of `i`. Assumes nothing.
-use borrow.Author.Rules.{rules}
 use borrow.Author.Tests.{lt-leb}
 use Rattle.text.specs.Values.{plus_of}
 use Rattle.text.proofs.Values.{plus_near}

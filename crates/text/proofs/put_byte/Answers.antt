@@ -1,7 +1,6 @@
 -- `put_byte` writes a byte at a place, and counts where the place is behind the buffer. Assumes nothing.
 use mathlib.Core.Path.{sym}
 use native.Mathlib.Omega.{arith}
-use borrow.Author.Rules.{rules}
 use lib.Seq.{set_out}
 use Rattle.text.proofs.put_byte.Goals as goal
 

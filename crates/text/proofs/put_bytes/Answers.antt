@@ -1,6 +1,5 @@
 -- `put_bytes` writes a text, by one look at the room for all of it. Assumes nothing.
 use mathlib.Core.Path.{sym, ◌∙◌}
-use borrow.Author.Rules.{rules}
 use borrow.Author.Tests.{leb-true}
 use Rattle.text.proofs.put_bytes.Goals as goal
 

@@ -1,5 +1,4 @@
 -- `put_int` writes an integer in base ten, with a minus where it is below 0. Assumes nothing.
-use borrow.Author.Rules.{rules}
 use Rattle.text.proofs.Signs.{text_minus, text_no_minus}
 use Rattle.text.proofs.Writing.{wrote_then}
 use Rattle.text.proofs.put_int.Goals as goal

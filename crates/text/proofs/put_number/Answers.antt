@@ -1,6 +1,5 @@
 -- `put_number` writes a number in base ten: by its width, where that has room, else digit by digit. Assumes nothing.
 use mathlib.Core.Path.{sym, ◌∙◌}
-use borrow.Author.Rules.{rules}
 use borrow.Author.Tests.{leb-true}
 use Rattle.text.proofs.put_number.Goals as goal
 

@@ -1,5 +1,4 @@
 -- `put_number_line` writes a key, a number and byte 10. Assumes nothing.
-use borrow.Author.Rules.{rules}
 use Rattle.text.specs.Writing.{number_line}
 use Rattle.text.proofs.Writing.{wrote_length, ◌▸◌}
 use Rattle.text.proofs.put_number_line.Goals as goal

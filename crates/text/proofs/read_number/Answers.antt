@@ -1,6 +1,5 @@
 -- `read_number` gives the number that a text is, at any length. Assumes nothing.
 use mathlib.Core.Path.{sym, ◌∙◌}
-use borrow.Author.Rules.{rules}
 use Rattle.node.specs.Texts.{bytes}
 use Rattle.text.proofs.Numbers.{number_zero, number_minus, number_minus_bad, number_plus, number_plus_bad}
 use Rattle.text.proofs.Parts.{starts_long}

@@ -1,6 +1,5 @@
 -- `read_ranged` gives the number that a text is, where it is within its range. Assumes nothing.
 use mathlib.Core.Path.{refl}
-use borrow.Author.Rules.{rules}
 use Rattle.text.proofs.Numbers.{ranged_malformed, ranged_minus, ranged_low, ranged_high, ranged_number}
 use Rattle.text.proofs.read_ranged.Goals as goal
 

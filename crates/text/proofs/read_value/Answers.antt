@@ -1,6 +1,5 @@
 -- `read_value` gives the value that a text is: its letter decides how its number is read. Assumes nothing.
 use mathlib.Core.Path.{ap, ◌∙◌}
-use borrow.Author.Rules.{rules}
 use borrow.Author.Tests.{eq-eqb, ne_eqb}
 use Rattle.node.specs.Values.{pid}
 use Rattle.node.specs.declared.Value.TheVariants.{Atom}

@@ -1,11 +1,8 @@
 -- `same` compares two texts. The invariant: they are equal where they are from k on. Assumes nothing.
-use mathlib.Core.Path.{◌≡◌, refl, sym}
+use mathlib.Core.Path.{◌≡◌}
 use Prim.Native.Nat.{◌-◌}
-use native.Mathlib.Omega.{arith}
-use borrow.Author.Rules.{rules}
 use lib.ListN.{length, drop}
 use Rattle.text.specs.Parts.{equal}
-use Rattle.text.proofs.Parts.{equal_lengths, equal_differ, equal_more, equal_end}
 use Rattle.text.proofs.same.Given as goal
 
 abbrev pub invariant-loop-k : goal.invariant-loop-k

@@ -1,6 +1,5 @@
 -- `starts` tells whether a text starts with a key. Assumes nothing.
 use mathlib.Core.Path.{sym}
-use borrow.Author.Rules.{rules}
 use lib.Seq.{length-take-le}
 use Rattle.text.specs.Parts.{starts_with}
 use Rattle.text.proofs.Parts.{starts_short}

@@ -1,10 +1,7 @@
 -- `store_bytes` stores a text that has room. The invariant: what is left to store is the text from k on. Assumes nothing.
 use Prim.Native.Nat.{◌+◌, ◌-◌, ◌≤◌}
-use native.Mathlib.Omega.{arith}
-use borrow.Author.Rules.{rules}
 use lib.ListN.{length, drop}
-use Rattle.text.proofs.Stores.{left_first, left_stored}
-use Rattle.text.proofs.Writing.{Left, left_bytes_end}
+use Rattle.text.proofs.Writing.{Left}
 use Rattle.text.proofs.store_bytes.Given as goal
 
 abbrev pub invariant-loop-k : goal.invariant-loop-k

@@ -1,7 +1,7 @@
 -- `store_digits` stores a number that has room, from its last digit on. The invariant: the digits in front are left. The measure is what they stand for. Assumes nothing.
 use native.Mathlib.Omega.{arith}
 use borrow.Author.Rules.{rules}
-use Rattle.text.proofs.Stores.{Front, front_all, front_wide, front_more, front_end}
+use Rattle.text.proofs.Stores.{front_wide, front_more, front_end}
 use Rattle.text.proofs.Digits.{digits_some}
 use Rattle.text.proofs.store_digits.Goals as goal
 

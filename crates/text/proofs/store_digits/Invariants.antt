@@ -1,8 +1,5 @@
 -- `store_digits` stores a number that has room, from its last digit on. The invariant: the digits in front are left. The measure is what they stand for. Assumes nothing.
-use native.Mathlib.Omega.{arith}
-use borrow.Author.Rules.{rules}
-use Rattle.text.proofs.Stores.{Front, front_all, front_wide, front_more, front_end}
-use Rattle.text.proofs.Digits.{digits_some}
+use Rattle.text.proofs.Stores.{Front}
 use Rattle.text.proofs.store_digits.Given as goal
 
 abbrev pub invariant-loop-m : goal.invariant-loop-m

@@ -1,10 +1,4 @@
 -- `place_of` gives the place of a number among numbers. The invariant: k and the numbers from k on give it. Assumes nothing.
-use mathlib.Core.Path.{◌≡◌}
-use Prim.Native.Nat.{◌+◌, ◌-◌}
-use native.Mathlib.Omega.{arith}
-use borrow.Author.Rules.{rules}
-use lib.ListN.{length, drop}
-use Rattle.words.specs.Words.{place_of}
 use Rattle.words.proofs.Words.{found_here, found_next, found_none}
 use Rattle.words.proofs.place_of.Goals as goal
 

@@ -1,10 +1,8 @@
 -- `put_word` writes the letters of a number, the first first. The invariant: what is left to write are the letters of what is left of it.
 -- Assumes nothing.
 use native.Mathlib.Omega.{arith}
-use borrow.Author.Rules.{rules}
-use Rattle.text.proofs.Writing.{Left, left_all}
+use Rattle.text.proofs.Writing.{left_all}
 use Rattle.words.proofs.Letters.{left_letter, left_letters_end}
-use Rattle.words.specs.Words.{letters}
 use Rattle.words.proofs.put_word.Goals as goal
 
 pub loop-left-init : goal.loop-left-init

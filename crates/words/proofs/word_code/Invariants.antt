@@ -1,11 +1,9 @@
 -- `word_code` gives the number of a word. The invariant: the letters from k on give the number so far. Assumes nothing.
 use mathlib.Core.Path.{◌≡◌}
 use Prim.Native.Nat.{◌≤◌, min}
-use native.Mathlib.Omega.{arith}
-use borrow.Author.Rules.{rules}
 use lib.ListN.{length, drop}
 use Rattle.words.specs.Words.{packed, long_word}
-use Rattle.words.proofs.Words.{Letters, packed_none, letters_front, packed_front, packed_all, long_none, low_none, high_none}
+use Rattle.words.proofs.Words.{Letters}
 use Rattle.words.proofs.word_code.Given as goal
 
 abbrev pub invariant-loop-k : goal.invariant-loop-k
