@@ -45,7 +45,10 @@ sample_plan = record {
 pub sample :
     load_of (bytes "plan=1\nbehaviours=2\ncode=3\nop=set,0,p2\nop=set,1,i12\nop=send,0,1\ncode=2\nop=recv,1\nop=clause,int,0,1,2\nstarts=2\nstart=1,1\nstart=2,2\n")
     ≡ record { number = 0; line = 0; node = node_of sample_plan }
-unfolding op_with start_with sample_plan load_of refused_load checked plan_lines code_lines start_lines header_told header_line count_told count_line op_told op_line start_told start_line risen start_of behaviours_of code node_of misplaced misplaced_from misplaced_in on_line times end_of worse coded_of op_of operands_of with_operand operand_of clause_kind instruction operand well_placed has_clauses targets_free kinds_of index_of lines_of last_apart line_then split in_front fields_of equal starts_with number_of number_form unsigned_form unsigned negative is_digit number_value decimal ranged_of value_of by_letter int_of plus_of minus_of
+unfolding op_with start_with sample_plan load_of refused_load checked plan_lines code_lines start_lines header_told header_line count_told count_line op_told op_line start_told start_line
+    risen start_of behaviours_of code node_of misplaced misplaced_from misplaced_in on_line times end_of worse coded_of op_of operands_of with_operand operand_of clause_kind instruction
+    operand well_placed has_clauses targets_free kinds_of index_of lines_of last_apart line_then split in_front fields_of equal starts_with number_of number_form unsigned_form unsigned
+    negative is_digit number_value decimal ranged_of value_of by_letter int_of plus_of minus_of
 sample = refl
 
 -- the number and the line of each
@@ -73,5 +76,8 @@ refusals : map tells (
     ∷ [])
     ≡ (11 ∷ 1 ∷ []) ∷ (11 ∷ 1 ∷ []) ∷ (11 ∷ 2 ∷ []) ∷ (11 ∷ 12 ∷ []) ∷ (11 ∷ 13 ∷ []) ∷ (12 ∷ 2 ∷ []) ∷ (11 ∷ 4 ∷ []) ∷ (12 ∷ 4 ∷ []) ∷ (11 ∷ 4 ∷ []) ∷ (12 ∷ 4 ∷ []) ∷ (0 ∷ 0 ∷ []) ∷ (13 ∷ 7 ∷ []) ∷
     (12 ∷ 7 ∷ []) ∷ (14 ∷ 5 ∷ []) ∷ (14 ∷ 5 ∷ []) ∷ (14 ∷ 5 ∷ []) ∷ (12 ∷ 5 ∷ []) ∷ []
-unfolding tells load_of refused_load checked plan_lines code_lines start_lines header_told header_line count_told count_line op_told op_line start_told start_line risen start_of behaviours_of code node_of misplaced misplaced_from misplaced_in on_line times end_of worse coded_of op_of operands_of with_operand operand_of clause_kind instruction operand well_placed has_clauses targets_free kinds_of index_of lines_of last_apart line_then split in_front fields_of equal starts_with number_of number_form unsigned_form unsigned negative is_digit number_value decimal ranged_of value_of by_letter int_of plus_of minus_of
+unfolding tells load_of refused_load checked plan_lines code_lines start_lines header_told header_line count_told count_line op_told op_line start_told start_line risen start_of
+    behaviours_of code node_of misplaced misplaced_from misplaced_in on_line times end_of worse coded_of op_of operands_of with_operand operand_of clause_kind instruction operand well_placed
+    has_clauses targets_free kinds_of index_of lines_of last_apart line_then split in_front fields_of equal starts_with number_of number_form unsigned_form unsigned negative is_digit
+    number_value decimal ranged_of value_of by_letter int_of plus_of minus_of
 refusals = refl

@@ -28,7 +28,8 @@ abbrev again : Loaded → List ℕ
 again r = plan_text (codes_held r.node) (starts_held r.node)
 
 started : again (record { number = 0; line = 0; node = node_of sample_plan }) ≡ sample_text
-unfolding plan_text plan_rows codes_rows code_rows op_row start_row operands_text operand_text kind_text each digits digits_in value_text number_text int_text codes_in code_in instruction operand kinds_of node_starts node_of sample_plan op_with start_with
+unfolding plan_text plan_rows codes_rows code_rows op_row start_row operands_text operand_text kind_text each digits digits_in value_text number_text int_text codes_in code_in instruction
+    operand kinds_of node_starts node_of sample_plan op_with start_with
 started = refl
 
 sample_back : again (load_of sample_text) ≡ sample_text

@@ -9,7 +9,9 @@ use Rattle.placement.specs.Misplaced.{misplaced_in}
 use Rattle.placement.proofs.misplaced_in.Given as goal
 
 abbrev pub invariant-loop-t : goal.invariant-loop-t
-invariant-loop-t l = (l.t ≤ l.len) × (l.left ≡ due 0 (take l.t (code_in l.len l.ops l.k))) × (misplaced_in (code_in l.len l.ops l.k) 0 l.first (code_in l.len l.ops l.k) ≡ misplaced_in (code_in l.len l.ops l.k) l.t (l.first + l.t) (drop l.t (code_in l.len l.ops l.k)))
+invariant-loop-t l =
+    let code = code_in l.len l.ops l.k in
+    (l.t ≤ l.len) × (l.left ≡ due 0 (take l.t code)) × (misplaced_in code 0 l.first code ≡ misplaced_in code l.t (l.first + l.t) (drop l.t code))
 
 abbrev pub decreases-loop-t : goal.decreases-loop-t
 decreases-loop-t l = l.len - l.t

@@ -11,8 +11,11 @@ use Rattle.plan.proofs.Nodes.{begun}
 use Rattle.plan.proofs.start_each.Given as goal
 
 abbrev pub invariant-loop-i : goal.invariant-loop-i
-invariant-loop-i l = (l.i ≤ l.len) × Turn l.text (λ (ys : List Start). on_line (start_line l.count (last_from before_first ys))) (begun (coded_node l.initial.n))
-    (remains l.text (λ (ys : List Start). on_line (start_line l.count (last_from before_first ys))) (begun (coded_node l.initial.n)) l.len [] (left_at l.text l.initial.mark)) l.i (l.len - l.i) l.mark (coded_node l.n, l.last)
+invariant-loop-i l =
+    let one = λ (ys : List Start). on_line (start_line l.count (last_from before_first ys)) in
+    let node = begun (coded_node l.initial.n) in
+    (l.i ≤ l.len)
+    × Turn l.text one node (remains l.text one node l.len [] (left_at l.text l.initial.mark)) l.i (l.len - l.i) l.mark (coded_node l.n, l.last)
 
 abbrev pub decreases-loop-i : goal.decreases-loop-i
 decreases-loop-i l = l.len - l.i

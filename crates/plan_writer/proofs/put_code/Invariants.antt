@@ -8,7 +8,9 @@ use Rattle.text.proofs.Writing.{Left}
 use Rattle.plan_writer.proofs.put_code.Given as goal
 
 abbrev pub invariant-loop-t : goal.invariant-loop-t
-invariant-loop-t l = (l.t ≤ l.many) × (l.many ≤ 32) × (l.k < 8) × (Left l.initial.out l.initial.e (each op_text (code_in l.len l.ops l.k)) l.out l.e (each op_text (drop l.t (code_in l.len l.ops l.k))))
+invariant-loop-t l =
+    (l.t ≤ l.many) × (l.many ≤ 32) × (l.k < 8)
+    × (Left l.initial.out l.initial.e (each op_text (code_in l.len l.ops l.k)) l.out l.e (each op_text (drop l.t (code_in l.len l.ops l.k))))
 
 abbrev pub decreases-loop-t : goal.decreases-loop-t
 decreases-loop-t l = l.many - l.t

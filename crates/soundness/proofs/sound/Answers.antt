@@ -93,7 +93,8 @@ pub returns-then-held-gt4 : goal.returns-then-held-gt4
 returns-then-held-gt4 c =
     let n = c.args.n in
     let l = c.loop-k in
-    long_stop (row_blocks n) l.k (omega arith) (due_then (row_blocks n) (first n c.loop-i.i c.busy_from-k.result c.loop-i.invariant.1 (omega arith) c.busy_from-k.ensures) l.invariant) c.if-held-gt4.true
+    let left = first n c.loop-i.i c.busy_from-k.result c.loop-i.invariant.1 (omega arith) c.busy_from-k.ensures in
+    long_stop (row_blocks n) l.k (omega arith) (due_then (row_blocks n) left l.invariant) c.if-held-gt4.true
 
 pub loop-m-2-init : goal.loop-m-2-init
 loop-m-2-init c =
