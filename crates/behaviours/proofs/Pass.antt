@@ -1,5 +1,5 @@
 -- Rules 12 and 14 of all behaviours by one pass over their ops, one behaviour after the other. Assumes nothing.
---   left_from c codes t k      the rules of `codes`, but for the first t ops of the first of them, behind which k parts of a recv may stand
+--   left_from c codes t k     the rules of `codes`, but for the first t ops of the first of them, behind which k parts of a recv may stand
 --   Pass c lens ops b t k g   what a loop keeps at place t of behaviour b, where k parts of a recv may stand: what is left gives g
 use mathlib.Core.Bool.{Bool, true, false, ◌&&◌, and-false}
 use mathlib.Core.List.{List, [], ◌∷◌}

@@ -1,8 +1,8 @@
 -- Laws of reading one thing after another: what is read and what is left give the answer. Assumes nothing.
---   told-good told-bad   what is read up to a mark, by its refusal
---   mapped_on            what is made of a result, made of it otherwise
---   made_stop made_on    behind a result of which something is made, a refusal ends the reading, and else it goes on
---   then_stop then_on_lem    the same, where the result is handed on as it is
+--   mark_read_good mark_read_bad   what is read up to a mark, by its refusal
+--   mapped_on                      what is made of a result, made of it otherwise
+--   made_stop made_on              behind a result of which something is made, a refusal ends the reading, and else it goes on
+--   then_stop then_on_lem          the same, where the result is handed on as it is
 --   Turn        the invariant, where i are read, j are left, and b is what they made
 --   turn_begin turn_more turn_stop turn_end   the start, the turns and the ends of such a loop
 use mathlib.Core.Bool.{Bool, true, false}

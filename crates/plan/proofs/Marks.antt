@@ -1,9 +1,9 @@
 -- Laws of marks: what is read of a line, whatever reads it. Assumes nothing.
---   line_end_lem line_start   a line lies within the text
---   line_short            numbers of lines and places are small
---   line_read             a line that is there, read by f
---   line_missing          a line that is not, or has no byte 10
---   end_stopped end_read  the end of a text, behind a refusal and behind a result
+--   line_end_lem line_start  a line lies within the text
+--   line_short               numbers of lines and places are small
+--   line_read                a line that is there, read by f
+--   line_missing             a line that is not, or has no byte 10
+--   end_stopped end_read     the end of a text, behind a refusal and behind a result
 use mathlib.Core.Bool.{Bool, true, false}
 use mathlib.Core.List.{List}
 use mathlib.Core.Path.{◌≡◌, refl, ◌∙◌}

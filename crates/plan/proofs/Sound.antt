@@ -1,7 +1,7 @@
 -- What a load gives is a sound node, whatever text it is given. Assumes nothing.
---   blank_sound   the blank node, which a refused load gives
---   plan_sound_lem    the node of a plan that keeps its limits and that no line is told of
---   loaded_sound  the node of every load
+--   blank_sound     the blank node, which a refused load gives
+--   plan_sound_lem  the node of a plan that keeps its limits and that no line is told of
+--   loaded_sound    the node of every load
 --   refused_blank a refused load gives the blank node
 use mathlib.Core.Bool.{Bool, true, false, So, ◌&&◌, cond}
 use mathlib.Core.List.{List, [], ◌∷◌, map}

@@ -1,6 +1,6 @@
 -- Laws of a whole plan: the parts that `plan_lines` is read in, and what a load tells of it. Assumes nothing.
 --   count_in codes_in starts_in ends_in   what is left to read behind `plan=1`, `behaviours=`, the codes and the starts
---   starts_end                        the starts and the end of a text
+--   starts_end                            the starts and the end of a text
 --   load_long load_stop load_placed load_misplaced   what a load tells
 use mathlib.Core.Bool.{Bool, true, false}
 use mathlib.Core.List.{List, []}

@@ -1,10 +1,10 @@
 -- How the code keeps its place in a text, and what that says of reading it.
---   left_at s m        what is left of the text s at mark m
---   mark_read s m a    what is read of s, up to mark m: its refusal, or the result a
+--   left_at s m       what is left of the text s at mark m
+--   mark_read s m a   what is read of s, up to mark m: its refusal, or the result a
 --   mapped f r        what is read, its result changed by f
 --   stopped m k       mark m with refusal k
 --   behind m e k      the mark behind the line of m that ends at e; with a refusal, m and the refusal
---   end_mark s m       the mark behind the end of s; where something is left, m and 11
+--   end_mark s m      the mark behind the end of s; where something is left, m and 11
 --   Within s m        m lies within s, and s within the limit of a plan
 --   Reached s m a r   reading up to m, with result a, is r
 use Rattle.std.specs.Prelude.{◌&&◌, cond, List, ◌≡◌, ℕ, ◌+◌, ◌≤◌, eqb, ltb, length, drop}

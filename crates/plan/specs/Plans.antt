@@ -1,17 +1,17 @@
 -- Plan text (document 01, "Plan, steps and listing text" and the plan writer's numbers): from the lines of a text to a plan, from a plan
 -- to the started node.
---   code_lines c             a line `code=` and its ops
---   start_lines c            a line `starts=` and its starts
---   Plan                    the codes of the behaviours, and the starts
+--   code_lines c              a line `code=` and its ops
+--   start_lines c             a line `starts=` and its starts
+--   Plan                      the codes of the behaviours, and the starts
 --   before_first last_from    a number below that of every process; the process of the last of some starts
---   plan_lines               the lines of a plan
---   misplaced node          14: the line of the first op that is not well placed; 0 where there is none
---   remade n ..             n with behaviours and processes anew
---   process_of b             a process that starts with behaviour b; unborn where b is 0
---   coded_node codes         the node with behaviours and processes, without mail and signals
+--   plan_lines                the lines of a plan
+--   misplaced node            14: the line of the first op that is not well placed; 0 where there is none
+--   remade n ..               n with behaviours and processes anew
+--   process_of b              a process that starts with behaviour b; unborn where b is 0
+--   coded_node codes          the node with behaviours and processes, without mail and signals
 --   with_code with_start      a node with one more behaviour, and with one more process started
---   node_of plan             the started node
---   load_of text             what a load tells
+--   node_of plan              the started node
+--   load_of text              what a load tells
 use Rattle.std.specs.Prelude.{cond, List, [], ◌∷◌, ◌++◌, map, ℕ, zero, suc, ◌+◌, ◌-◌, ◌*◌, eqb, ltb, length, set, replicate}
 use Rattle.std.proofs.lemmas.List.Edits.{sets}
 use Rattle.node.specs.declared.Node.{Node}

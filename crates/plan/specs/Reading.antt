@@ -1,10 +1,10 @@
 -- Reading a text line by line, the first bad line told (document 01, "The three hands").
 --   Left             what is left of a text: its lines, and the number of the first of them
 --   Read A           what is read: a refusal with its line, or a result and what is left
---   on_line f l       one line, read by f; a missing line, and one without byte 10, is 11
---   then_on r f       f on what is left behind r
+--   on_line f l      one line, read by f; a missing line, and one without byte 10, is 11
+--   then_on r f      f on what is left behind r
 --   times n f a l    f n times, each on what the one before left
---   end_of a l        the result a, where nothing is left; a surplus line is 11
+--   end_of a l       the result a, where nothing is left; a surplus line is 11
 use Rattle.std.specs.Prelude.{List, [], ◌∷◌, ℕ, zero, suc, ◌+◌}
 use Rattle.rules.specs.Answers.{Answer, refused, done}
 use Rattle.text.specs.Numbers.{malformed}

@@ -1,11 +1,11 @@
 -- Laws of plan text, in the order in which the code writes it. Assumes nothing.
 --   left_op ops_end code_wrote    a loop over the ops of a behaviour: one more, and the end; the line `code=` before them
---   left_code codes_end       a loop over the behaviours
---   op_word_text              the letters of the number of an op's word are the word
---   exact_text kind_text_lem      a clause's kind: one exact value, and a word
+--   left_code codes_end          a loop over the behaviours
+--   op_word_text                 the letters of the number of an op's word are the word
+--   exact_text kind_text_lem     a clause's kind: one exact value, and a word
 --   left_operand operands_end   a loop over the operands of an op: one more, and the end
---   left_start starts_end     a loop over the starts of a row
---   plan_parts                the parts of a plan
+--   left_start starts_end        a loop over the starts of a row
+--   plan_parts                   the parts of a plan
 use mathlib.Core.Bool.{true, cond}
 use mathlib.Core.List.{List, [], ◌∷◌, ◌++◌, append_assoc, map}
 use mathlib.Core.Path.{◌≡◌, refl, sym, ap, ◌∙◌}

@@ -1,5 +1,5 @@
 -- Laws of the test of a plan: a row of starts, one by one, and the whole. Assumes nothing.
---   rise-all           at the start of the loop every start is left
+--   starts_counted           at the start of the loop every start is left
 --   rise_stop rise_more rise_end   a start that does not fit, one that does, and none left
 --   plan_refused plan_tested       behaviours that are not sound, and the starts behind those that are
 --   codes_few codes_sound_lem starts_within code_within   what a plan that passes the test gives its writers

@@ -4,7 +4,7 @@
 --   starts_rise c last ss     so does each of some starts, each behind the one before
 --   starts_sound c starts     1 to 16 starts that rise
 --   plan_sound codes starts   the form of a plan: what some accepted plan text holds
---   written x                what is told of a text that is listed, told of one that is written
+--   written x                 what is told of a text that is listed, told of one that is written
 --   write_told codes starts old    the answer of `write_plan` on the buffer `old`: 31, 30, or the length
 --   write_shown codes starts old   the buffer behind it
 use Rattle.std.specs.Prelude.{Bool, true, ◌&&◌, cond, List, [], ◌∷◌, ℕ, leb, ltb, length}

@@ -4,12 +4,12 @@
 --   operand_text kind x     an operand of a kind
 --   operands_text kinds xs  the operands of an op, a comma before each
 --   operands_of x           those of an instruction
---   numbered key n         a row with a key and a number
+--   numbered key n          a row with a key and a number
 --   op_row x                the row `op=` of an instruction
 --   code_rows code          the row `code=` of a behaviour, and its ops;  codes_rows codes  those of all behaviours
 --   start_row s             the row `start=` of a start
 --   plan_rows codes starts  the rows of a plan
---   ended row              a row with the byte that ends it
+--   ended row               a row with the byte that ends it
 --   plan_text codes starts  the text of a plan
 --   longest_plan            what the text of a plan has at most
 use Rattle.std.specs.Prelude.{cond, List, [], ◌∷◌, ◌++◌, map, ℕ, ◌-◌, eqb, length, get_or}

@@ -1,5 +1,5 @@
 -- Plan text that is written is accepted by a load, and gives the behaviours and starts of which it was written. Assumes nothing.
---   as_read s                  a start as a line `start=` gives it
+--   as_read s                 a start as a line `start=` gives it
 --   Gives r rest P            a reading has a result with P, and leaves the rows `rest`
 --   times_gives               a reading that is repeated, each time of one element more
 --   codes_give starts_give    the rows of behaviours, and of starts

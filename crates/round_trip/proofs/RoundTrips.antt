@@ -1,5 +1,5 @@
 -- The guarantees on plans that are written. Assumes nothing.
---   ops_of b        the ops of the behaviours that b holds, whose instructions they are (`ops-of`)
+--   ops_of b       the ops of the behaviours that b holds, whose instructions they are (`ops_of_lem`)
 --   node_codes     what a writer takes of a node's behaviours are the behaviours of its view
 --   holds_sound    what an accepted text holds passes the test
 use mathlib.Core.Bool.{Bool, true, false, So, ◌&&◌, cond}

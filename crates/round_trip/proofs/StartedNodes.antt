@@ -1,5 +1,5 @@
 -- The starts of the started node are those of the plan. Assumes nothing.
---   as_start s        a start that was read, without its refusal
+--   as_start s       a start that was read, without its refusal
 --   UnbornFrom k ps  from place k on, all of ps are unborn
 --   live_set         a process that starts there is the last of the live ones
 --   starts_live      starts that rise are the live ones behind those that were live

@@ -1,7 +1,7 @@
 -- What the code reads of the arrays of a node is what `sound` reads of its view. Assumes nothing.
 --   mail_blocks row_blocks   the mailboxes, each with the process that it belongs to, and the rows in flight, as blocks to be walked
---   shaped_node            a node that code holds has its arrays in full
---   sound_not sound_due    `sound`, where the behaviours are not sound, and where they are: then the blocks give it
+--   shaped_node              a node that code holds has its arrays in full
+--   sound_not sound_due      `sound`, where the behaviours are not sound, and where they are: then the blocks give it
 use mathlib.Core.Bool.{Bool, true, false, So, ◌&&◌, not, cond, and-true, and-false}
 use mathlib.Core.List.{List, [], ◌∷◌, map, flat_map}
 use mathlib.Core.Path.{◌≡◌, refl, sym, ◌∙◌, ap}

@@ -2,7 +2,7 @@
 -- are both walked by these laws. Assumes nothing.
 --   Blocks C A            blocks of cells C, which hold elements A
 --   elements b k          what block k holds
---   block_sound b k        block k passes: a test of its own, no more elements than it has room for, and the test of each
+--   block_sound b k       block k passes: a test of its own, no more elements than it has room for, and the test of each
 --   Due b rest g k        what the outer loop keeps: the tests of the blocks from k on, and then `rest`, give g
 --   Within b rest g k m   what the inner loop keeps: those of the elements of block k from m on, of the blocks behind it, and then `rest`, give g
 --   skips                 blocks without elements, passed over;  due_then within_then  what is left of what was left

@@ -1,8 +1,8 @@
 -- What the code reads of a process, in the words of `sound` (crate `rules`): so a function that is handed a part of a node says what it answers.
 --   length_in lens p place_in p    how long the behaviour of process p is, and where the op at its place stands; what is no behaviour or no place wraps
 --   running_told standing_told     `running_sound` and `standing_sound`, but for the mailbox, by what they look up: how many behaviours there are, how long
---                                the process's own is, and the number of the op at its place
---   Quiet Busy                   pairs with no signal in flight, and the first with one
+--                                  the process's own is, and the number of the op at its place
+--   Quiet Busy                     pairs with no signal in flight, and the first with one
 use Rattle.std.specs.Prelude.{Bool, true, ◌&&◌, not, cond, List, [], ◌∷◌, ◌≡◌, ℕ, ◌+◌, ◌-◌, ◌*◌, ◌%◌, ◌≤◌, ◌<◌, eqb, leb, ltb, get_or}
 use Rattle.node.specs.declared.Process.{Process}
 use Rattle.node.specs.declared.Stage.{Stage}
