@@ -1,12 +1,11 @@
 -- What the writer answers: 31 before 30, then by the room in the buffer. Assumes nothing.
 --   write_refused   behaviours and starts that no accepted text holds
 --   write_allowed   others: what is told and shown of their text
-use mathlib.Core.Bool.{Bool, true, false, not}
+use mathlib.Core.Bool.{Bool, true, false}
 use mathlib.Core.List.{List}
-use mathlib.Core.Path.{◌≡◌, ap}
+use mathlib.Core.Path.{◌≡◌, sym, ap, ◌∙◌}
 use Prim.Native.Nat.{ℕ}
 use Rattle.node.specs.declared.Start.{Start}
-use Rattle.node.proofs.Tests.{failed, passed}
 use Rattle.rules.specs.Answers.{not_sound}
 use Rattle.rules.specs.Behaviours.{Instruction}
 use Rattle.listing.specs.declared.Listed.{Listed}
@@ -15,11 +14,11 @@ use Rattle.plan_writer.specs.Answers.{plan_sound, written, write_told, write_sho
 use Rattle.plan_writer.specs.Texts.{plan_text}
 
 module _ (codes : List (List Instruction)) (starts : List Start) (o : List ℕ) {t : Bool} (is : t ≡ plan_sound codes starts) where
-  pub write_refused : not t ≡ true → (written (refused_with not_sound) ≡ write_told codes starts o) × (o ≡ write_shown codes starts o)
+  pub write_refused : t ≡ false → (written (refused_with not_sound) ≡ write_told codes starts o) × (o ≡ write_shown codes starts o)
   unfolding write_told write_shown
-  write_refused e = (rw (failed is e), rw (failed is e))
+  write_refused e = (rw (sym is ∙ e), rw (sym is ∙ e))
 
-  pub write_allowed : {r : Listed} {m : List ℕ} → not t ≡ false → (r ≡ told o (plan_text codes starts)) × (m ≡ shown o (plan_text codes starts))
+  pub write_allowed : {r : Listed} {m : List ℕ} → t ≡ true → (r ≡ told o (plan_text codes starts)) × (m ≡ shown o (plan_text codes starts))
       → (written r ≡ write_told codes starts o) × (m ≡ write_shown codes starts o)
   unfolding write_told write_shown
-  write_allowed e p = (rw (passed is e) (ap written p.0), rw (passed is e) p.1)
+  write_allowed e p = (rw (sym is ∙ e) (ap written p.0), rw (sym is ∙ e) p.1)

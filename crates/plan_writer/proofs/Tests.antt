@@ -3,7 +3,7 @@
 --   rise_stop rise_more rise_end   a start that does not fit, one that does, and none left
 --   plan_refused plan_tested       behaviours that are not sound, and the starts behind those that are
 --   codes_few codes_sound_lem starts_within code_within   what a plan that passes the test gives its writers
-use mathlib.Core.Bool.{Bool, true, false, So, ◌&&◌, not}
+use mathlib.Core.Bool.{Bool, true, false, So, ◌&&◌}
 use mathlib.Core.List.{List, []}
 use mathlib.Core.Path.{◌≡◌, sym, ap, ◌∙◌}
 use Prim.Native.Nat.{ℕ, ◌+◌, ◌≤◌, ◌<◌}
@@ -17,7 +17,6 @@ use Rattle.node.specs.declared.Starts.{Starts}
 use Rattle.node.specs.Lists.{all_of}
 use Rattle.node.specs.Starts.{no_start, starts_in}
 use Rattle.node.proofs.Lists.{firsts_get_d, firsts_length}
-use Rattle.node.proofs.Tests.{failed, passed}
 use Rattle.rules.specs.Behaviours.{code_sound}
 use Rattle.rules.proofs.All.{parts, all_of_at}
 use Rattle.rules.proofs.Places.{code_short}
@@ -33,8 +32,8 @@ starts_length s = firsts_length no_start s.count s.list
 
 module _ (c : ℕ) (s : Starts) where
   -- the count that code tests is that of the starts
-  pub starts_count : {t : Bool} → t ≡ (leb 1 s.count && leb s.count 16) → not t ≡ true → false ≡ starts_sound c (starts_in s)
-  starts_count is e = rw (starts_length s, failed is e)
+  pub starts_count : {t : Bool} → t ≡ (leb 1 s.count && leb s.count 16) → t ≡ false → false ≡ starts_sound c (starts_in s)
+  starts_count is e = rw (starts_length s, sym is ∙ e)
 
   module _ (last k : ℕ) where
     abbrev left : Bool
@@ -45,23 +44,23 @@ module _ (c : ℕ) (s : Starts) where
     rise_here h = rw (drop_next (starts_in s) k no_start (omega (arith, starts_length s)), firsts_get_d no_start s.count s.list k h)
 
     module _ {g : Bool} (is : g ≡ starts_rise c last (drop k (starts_in s))) {t : Bool} (h : k < s.count) (fits : t ≡ start_fits c last (get_or s.list k no_start)) where
-      pub rise_stop : not t ≡ true → false ≡ g
-      rise_stop e = sym (is ∙ rise_here h ∙ rw (failed fits e))
+      pub rise_stop : t ≡ false → false ≡ g
+      rise_stop e = sym (is ∙ rise_here h ∙ rw (sym fits ∙ e))
 
-      pub rise_more : not t ≡ false → g ≡ starts_rise c (get_or s.list k no_start).process.0 (drop (k + 1) (starts_in s))
-      rise_more e = is ∙ rise_here h ∙ rw (passed fits e)
+      pub rise_more : t ≡ true → g ≡ starts_rise c (get_or s.list k no_start).process.0 (drop (k + 1) (starts_in s))
+      rise_more e = is ∙ rise_here h ∙ rw (sym fits ∙ e)
 
     pub rise_end : {g : Bool} → g ≡ starts_rise c last (drop k (starts_in s)) → s.count ≤ k → true ≡ g
     unfolding starts_rise
     rise_end is h = sym (is ∙ rw (drop_of_length-le (starts_in s) {i = k} (omega (arith, starts_length s))))
 
   -- where the count is right, the starts decide
-  module _ {t : Bool} (is : t ≡ (leb 1 s.count && leb s.count 16)) (e : not t ≡ false) where
+  module _ {t : Bool} (is : t ≡ (leb 1 s.count && leb s.count 16)) (e : t ≡ true) where
     pub starts_counted : starts_sound c (starts_in s) ≡ starts_rise c 0 (starts_in s)
-    starts_counted = rw (starts_length s, passed is e)
+    starts_counted = rw (starts_length s, sym is ∙ e)
 
     pub starts_few : s.count ≤ 16
-    starts_few = leb-true s.count 16 (parts (leb 1 s.count) (leb s.count 16) (passed is e)).1
+    starts_few = leb-true s.count 16 (parts (leb 1 s.count) (leb s.count 16) (sym is ∙ e)).1
 
 -- ---- behaviours and starts
 
@@ -74,11 +73,11 @@ module _ (b : Behaviours) (s : Starts) where
   plan_test = rw (codes_length b.count b.lens b.ops)
 
   module _ {t : Bool} (is : t ≡ tested) where
-    pub plan_refused : not t ≡ true → false ≡ plan_sound (codes_of b) (starts_in s)
-    plan_refused e = sym (plan_test ∙ ap (λ (x : Bool). x && starts_sound b.count (starts_in s)) (failed is e))
+    pub plan_refused : t ≡ false → false ≡ plan_sound (codes_of b) (starts_in s)
+    plan_refused e = sym (plan_test ∙ ap (λ (x : Bool). x && starts_sound b.count (starts_in s)) (sym is ∙ e))
 
-    pub plan_tested : {r : Bool} → not t ≡ false → r ≡ starts_sound b.count (starts_in s) → r ≡ plan_sound (codes_of b) (starts_in s)
-    plan_tested e q = q ∙ sym (plan_test ∙ ap (λ (x : Bool). x && starts_sound b.count (starts_in s)) (passed is e))
+    pub plan_tested : {r : Bool} → t ≡ true → r ≡ starts_sound b.count (starts_in s) → r ≡ plan_sound (codes_of b) (starts_in s)
+    plan_tested e q = q ∙ sym (plan_test ∙ ap (λ (x : Bool). x && starts_sound b.count (starts_in s)) (sym is ∙ e))
 
   -- what the writers ask for
   module _ (h : So (plan_sound (codes_of b) (starts_in s))) where
