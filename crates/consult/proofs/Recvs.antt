@@ -35,7 +35,7 @@ use Rattle.receive.specs.Found.{clauses_in, mail_in}
 use Rattle.receive.specs.Waiting.{awaits}
 use Rattle.rules.specs.Answers.{refused, done, not_sound}
 use Rattle.rules.specs.Consult.{consulted, ops_of, clauses_of, at_recv, consultation}
-use Rattle.rules.specs.Nodes.{Sound, sound, behaviours_of, code, process, mailbox}
+use Rattle.rules.specs.Nodes.{Sound, sound, behaviours_of, process, mailbox}
 use Rattle.rules.specs.Timeout.{is_live}
 use Rattle.rules.proofs.All.{parts}
 use Rattle.rules.proofs.Commits.{Parts, parts_of}
