@@ -12,10 +12,9 @@ loop-k-init c = (search rules, refl)
 
 pub loop-k-preserved : goal.loop-k-preserved
 loop-k-preserved c =
-    let loop-test = c.loop-k-test in
     let turn = c.loop-k in
     let size = c.well_formed.0.1.1.1.1.0.1.0.1 in
-    (search rules, started_more _ c.args.codes.starts turn.k turn.invariant.1 (omega (arith, loop-test.true, size)) c.process_of-p.ensures)
+    (search rules, started_more _ c.args.codes.starts turn.k turn.invariant.1 (omega (arith, c.loop-k-test.true, size)) c.process_of-p.ensures)
 
 pub returns : goal.returns
 unfolding blank_node

@@ -10,8 +10,7 @@ pub returns-then-text-e : goal.returns-then-text-e
 returns-then-text-e c =
     let args = c.args in
     let found = c.line_end-e in
-    let pre = c.requires in
-    (line_missing _ _ pre found.ensures (count_line _ args.low args.high) _ c.if-text-e.true c.stopped_at.ensures, omega arith)
+    (line_missing _ _ c.requires found.ensures (count_line _ args.low args.high) _ c.if-text-e.true c.stopped_at.ensures, omega arith)
 
 pub slice_bounds-count_line-start : goal.slice_bounds-count_line-start
 slice_bounds-count_line-start c = line_start _ _ c.requires c.line_end-e.ensures
@@ -22,16 +21,12 @@ slice_bounds-count_line-count c = line_start _ _ c.requires c.line_end-e.ensures
 pub behind_line-requires : goal.behind_line-requires
 behind_line-requires c =
     let found = c.line_end-e in
-    let if1 = c.if-text-e in
-    let pre = c.requires in
-    line_short _ _ pre found.ensures if1.false
+    line_short _ _ c.requires found.ensures c.if-text-e.false
 
 pub returns : goal.returns
 unfolding count_line
 returns c =
     let args = c.args in
     let found = c.line_end-e in
-    let if1 = c.if-text-e in
-    let pre = c.requires in
     let told = c.count_line-x.ensures in
-    (line_read _ _ pre found.ensures (count_line _ args.low args.high) _ _ if1.false c.behind_line.ensures (ap number told), rw told (count_kept _ args.low args.high _).most)
+    (line_read _ _ c.requires found.ensures (count_line _ args.low args.high) _ _ c.if-text-e.false c.behind_line.ensures (ap number told), rw told (count_kept _ args.low args.high _).most)

@@ -8,8 +8,7 @@ use Rattle.plan.proofs.header_at.Goals as goal
 pub returns-then-text-e : goal.returns-then-text-e
 returns-then-text-e c =
     let found = c.line_end-e in
-    let pre = c.requires in
-    line_missing _ _ pre found.ensures header_line _ c.if-text-e.true c.stopped_at.ensures
+    line_missing _ _ c.requires found.ensures header_line _ c.if-text-e.true c.stopped_at.ensures
 
 pub slice_bounds-header_line-start : goal.slice_bounds-header_line-start
 slice_bounds-header_line-start c = line_start _ _ c.requires c.line_end-e.ensures
@@ -20,14 +19,10 @@ slice_bounds-header_line-count c = line_start _ _ c.requires c.line_end-e.ensure
 pub behind_line-requires : goal.behind_line-requires
 behind_line-requires c =
     let found = c.line_end-e in
-    let if1 = c.if-text-e in
-    let pre = c.requires in
-    line_short _ _ pre found.ensures if1.false
+    line_short _ _ c.requires found.ensures c.if-text-e.false
 
 pub returns : goal.returns
 unfolding header_line
 returns c =
     let found = c.line_end-e in
-    let if1 = c.if-text-e in
-    let pre = c.requires in
-    line_read _ _ pre found.ensures header_line _ _ if1.false c.behind_line.ensures (ap (λ (k : ℕ). answered k 1) c.header_line.ensures)
+    line_read _ _ c.requires found.ensures header_line _ _ c.if-text-e.false c.behind_line.ensures (ap (λ (k : ℕ). answered k 1) c.header_line.ensures)

@@ -7,20 +7,15 @@ returns-then-text-gt16384 c = load_long _ c.if-text-gt16384.true c.refused_load.
 
 pub returns-then-end-ne0 : goal.returns-then-end-ne0
 returns-then-end-ne0 c =
-    let if1 = c.if-text-gt16384 in
     let read = c.read_plan-x in
-    load_stop _ if1.false _ read.ensures c.if-end-ne0.true c.refused_load-then-end-ne0.ensures
+    load_stop _ c.if-text-gt16384.false _ read.ensures c.if-end-ne0.true c.refused_load-then-end-ne0.ensures
 
 pub returns-then-line-ne0 : goal.returns-then-line-ne0
 returns-then-line-ne0 c =
-    let if1 = c.if-text-gt16384 in
     let read = c.read_plan-x in
-    let if2 = c.if-end-ne0 in
-    load_misplaced _ if1.false _ read.ensures if2.false c.misplaced-line.ensures c.if-line-ne0.true c.refused_load-then-line-ne0.ensures
+    load_misplaced _ c.if-text-gt16384.false _ read.ensures c.if-end-ne0.false c.misplaced-line.ensures c.if-line-ne0.true c.refused_load-then-line-ne0.ensures
 
 pub returns : goal.returns
 returns c =
-    let if1 = c.if-text-gt16384 in
     let read = c.read_plan-x in
-    let if2 = c.if-end-ne0 in
-    load_placed _ if1.false _ read.ensures if2.false c.misplaced-line.ensures c.if-line-ne0.false (rw c.coded_node.ensures)
+    load_placed _ c.if-text-gt16384.false _ read.ensures c.if-end-ne0.false c.misplaced-line.ensures c.if-line-ne0.false (rw c.coded_node.ensures)

@@ -8,9 +8,7 @@ pub returns-then-text-e : goal.returns-then-text-e
 returns-then-text-e c =
     let args = c.args in
     let found = c.line_end-e in
-    let if1 = c.if-text-e in
-    let pre = c.requires in
-    line_missing _ _ pre found.ensures (op_line args.count args.len) _ if1.true c.stopped_at.ensures
+    line_missing _ _ c.requires found.ensures (op_line args.count args.len) _ c.if-text-e.true c.stopped_at.ensures
 
 pub slice_bounds-op_line-start : goal.slice_bounds-op_line-start
 slice_bounds-op_line-start c = line_start _ _ c.requires c.line_end-e.ensures
@@ -21,16 +19,12 @@ slice_bounds-op_line-count c = line_start _ _ c.requires c.line_end-e.ensures
 pub behind_line-requires : goal.behind_line-requires
 behind_line-requires c =
     let found = c.line_end-e in
-    let if1 = c.if-text-e in
-    let pre = c.requires in
-    line_short _ _ pre found.ensures if1.false
+    line_short _ _ c.requires found.ensures c.if-text-e.false
 
 pub returns : goal.returns
 unfolding op_line
 returns c =
     let args = c.args in
     let found = c.line_end-e in
-    let if1 = c.if-text-e in
     let op-line = c.op_line-x in
-    let pre = c.requires in
-    line_read _ _ pre found.ensures (op_line args.count args.len) _ _ if1.false c.behind_line.ensures (ap op op-line.ensures)
+    line_read _ _ c.requires found.ensures (op_line args.count args.len) _ _ c.if-text-e.false c.behind_line.ensures (ap op op-line.ensures)

@@ -11,8 +11,7 @@ use Rattle.plan.proofs.read_code.Goals as goal
 
 pub count_at-x-requires : goal.count_at-x-requires
 count_at-x-requires c =
-    let pre = c.requires in
-    pre.0
+    c.requires.0
 
 pub returns-then-mark-ne0 : goal.returns-then-mark-ne0
 unfolding code_lines
@@ -24,20 +23,17 @@ returns-then-mark-ne0 c =
 pub read_ops-y-requires : goal.read_ops-y-requires
 read_ops-y-requires c =
     let count_at = c.count_at-x in
-    let pre = c.requires in
-    (count_at.ensures.0.within, c.if-mark-ne0.false, pre.2, count_at.ensures.1)
+    (count_at.ensures.0.within, c.if-mark-ne0.false, c.requires.2, count_at.ensures.1)
 
 pub overflow_add-n : goal.overflow_add-n
 overflow_add-n c =
-    let pre = c.requires in
-    omega (arith, pre.2)
+    omega (arith, c.requires.2)
 
 pub returns : goal.returns
 unfolding code_lines
 returns c =
     let args = c.args in
     let count_at = c.count_at-x in
-    let if1 = c.if-mark-ne0 in
     let read_ops = c.read_ops-y in
-    then_on_lem _ _ count_at.ensures.0 (λ (n : ℕ) (l : Left). times n (more (on_line (op_line args.count n))) [] l) (with_code (coded_node args.codes)) if1.false
+    then_on_lem _ _ count_at.ensures.0 (λ (n : ℕ) (l : Left). times n (more (on_line (op_line args.count n))) [] l) (with_code (coded_node args.codes)) c.if-mark-ne0.false
     (mapped_on _ _ _ (with_code (coded_node args.codes)) _ read_ops.ensures (λ ops e. counted_code (coded_node args.codes) ops e))

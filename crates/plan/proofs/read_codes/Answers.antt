@@ -11,29 +11,25 @@ use Rattle.plan.proofs.read_codes.Goals as goal
 
 pub loop-i-init : goal.loop-i-init
 loop-i-init c =
-    let pre = c.requires in
-    (search rules, turn_begin _ _ _ _ _ pre.1 pre.0 c.no_codes-n.ensures)
+    (search rules, turn_begin _ _ _ _ _ c.requires.1 c.requires.0 c.no_codes-n.ensures)
 
 pub read_code-x-requires : goal.read_code-x-requires
 read_code-x-requires c =
     let turn = c.loop-i.invariant.1 in
-    let pre = c.requires in
-    (turn.within, turn.on, codes_small empty_node turn.xs turn.made (omega (arith, pre.2, turn.counted)))
+    (turn.within, turn.on, codes_small empty_node turn.xs turn.made (omega (arith, c.requires.2, turn.counted)))
 
 pub returns-then-mark-ne0 : goal.returns-then-mark-ne0
 returns-then-mark-ne0 c =
-    let loop-test = c.loop-i-test in
     let read-code = c.read_code-x in
     let turn = c.loop-i in
-    turn_stop _ _ _ turn.invariant.1 (with_code (coded_node turn.n)) read-code.ensures (left_one _ _ loop-test.true) _ c.if-mark-ne0.true
+    turn_stop _ _ _ turn.invariant.1 (with_code (coded_node turn.n)) read-code.ensures (left_one _ _ c.loop-i-test.true) _ c.if-mark-ne0.true
 
 pub loop-i-preserved : goal.loop-i-preserved
 loop-i-preserved c =
-    let loop-test = c.loop-i-test in
     let read-code = c.read_code-x in
     let turn = c.loop-i in (
       search rules,
-      turn_more _ _ _ turn.invariant.1 (with_code (coded_node turn.n)) read-code.ensures (left_one _ _ loop-test.true) c.if-mark-ne0.false
+      turn_more _ _ _ turn.invariant.1 (with_code (coded_node turn.n)) read-code.ensures (left_one _ _ c.loop-i-test.true) c.if-mark-ne0.false
           (λ code e. e ∙ ap (λ (b : Node). with_code b code) turn.invariant.1.made ∙ each_more with_code empty_node turn.invariant.1.xs code),
     )
 

@@ -11,11 +11,9 @@ returns-then-m-ne0 c = sym (end_stopped _ _ c.if-m-ne0.true)
 pub returns-then-m-text : goal.returns-then-m-text
 unfolding end_mark
 returns-then-m-text c =
-    let if1 = c.if-m-ne0 in
-    c.stopped_at.ensures ∙ rw (eq-eqb _ 0 if1.false, lt-ltb _ _ c.if-m-text.true)
+    c.stopped_at.ensures ∙ rw (eq-eqb _ 0 c.if-m-ne0.false, lt-ltb _ _ c.if-m-text.true)
 
 pub returns : goal.returns
 unfolding end_mark
 returns c =
-    let if1 = c.if-m-ne0 in
-    rw (eq-eqb _ 0 if1.false, le-ltb _ _ c.if-m-text.false)
+    rw (eq-eqb _ 0 c.if-m-ne0.false, le-ltb _ _ c.if-m-text.false)

@@ -15,55 +15,47 @@ bounds-n-b c = c.requires.2
 
 pub loop-i-init : goal.loop-i-init
 loop-i-init c =
-    let pre = c.requires in
-    (search rules, turn_begin _ _ _ _ _ pre.1 pre.0 (sym (ops_anew (coded_node c.args.codes) [])))
+    (search rules, turn_begin _ _ _ _ _ c.requires.1 c.requires.0 (sym (ops_anew (coded_node c.args.codes) [])))
 
 pub op_at-x-requires : goal.op_at-x-requires
 op_at-x-requires c = c.loop-i.invariant.1.within
 
 pub returns-then-mark-ne0 : goal.returns-then-mark-ne0
 returns-then-mark-ne0 c =
-    let loop-test = c.loop-i-test in
     let op_at_lem = c.op_at-x in
     let turn = c.loop-i in
     let args = c.args in
     mapped_on _ _ (with_ops (with_ops (coded_node args.codes) [])) (with_ops (coded_node args.codes)) _
     (turn_stop _ _ _ turn.invariant.1 (λ (x : Op). x) (record { is = op_at_lem.ensures.is ∙ mapped_same _; within = op_at_lem.ensures.within })
-    (left_one _ _ loop-test.true) (coded_node turn.n) c.if-mark-ne0.true)
+    (left_one _ _ c.loop-i-test.true) (coded_node turn.n) c.if-mark-ne0.true)
     (λ ops e. e ∙ ops_anew (coded_node args.codes) ops)
 
 pub overflow_mul-at : goal.overflow_mul-at
 overflow_mul-at c =
-    let pre = c.requires in
-    omega (arith, pre.2)
+    omega (arith, c.requires.2)
 
 pub overflow_add-at : goal.overflow_add-at
 overflow_add-at c =
-    let pre = c.requires in
-    omega (arith, pre.2)
+    omega (arith, c.requires.2)
 
 pub bounds-n-b-in-loop-i : goal.bounds-n-b-in-loop-i
 bounds-n-b-in-loop-i c = c.requires.2
 
 pub offset_bounds-n-at : goal.offset_bounds-n-at
 offset_bounds-n-at c =
-    let pre = c.requires in
-    omega (arith, pre.2, pre.3)
+    omega (arith, c.requires.2, c.requires.3)
 
 pub bounds-n-at : goal.bounds-n-at
 bounds-n-at c =
-    let pre = c.requires in
-    let loop-test = c.loop-i-test in
-    omega (arith, pre.2, pre.3, loop-test.true)
+    omega (arith, c.requires.2, c.requires.3, c.loop-i-test.true)
 
 pub loop-i-preserved : goal.loop-i-preserved
 loop-i-preserved c =
     let args = c.args in
-    let loop-test = c.loop-i-test in
     let op_at_lem = c.op_at-x in
     let turn = c.loop-i in (
       search rules,
-      turn_more _ _ _ turn.invariant.1 (λ (x : Op). x) (record { is = op_at_lem.ensures.is ∙ mapped_same _; within = op_at_lem.ensures.within }) (left_one _ _ loop-test.true) c.if-mark-ne0.false
+      turn_more _ _ _ turn.invariant.1 (λ (x : Op). x) (record { is = op_at_lem.ensures.is ∙ mapped_same _; within = op_at_lem.ensures.within }) (left_one _ _ c.loop-i-test.true) c.if-mark-ne0.false
           (λ x e. ops_next (with_ops (coded_node args.codes) []) turn.invariant.1.xs turn.invariant.1.made e turn.invariant.1.counted),
     )
 

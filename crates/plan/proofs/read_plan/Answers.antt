@@ -14,34 +14,28 @@ pub returns-then-mark-ne0 : goal.returns-then-mark-ne0
 unfolding plan_lines
 returns-then-mark-ne0 c =
     let header = c.header_at-header in
-    let if1 = c.if-header-ne0 in
     let count = c.count_at-x in
-    then_on_lem _ _ header.ensures count_in node_of if1.false
+    then_on_lem _ _ header.ensures count_in node_of c.if-header-ne0.false
     (then_stop _ _ count.ensures.0 codes_in node_of _ c.if-mark-ne0.true)
 
 pub returns-then-behind-ne0 : goal.returns-then-behind-ne0
 unfolding plan_lines
 returns-then-behind-ne0 c =
     let header = c.header_at-header in
-    let if1 = c.if-header-ne0 in
     let count = c.count_at-x in
-    let if2 = c.if-mark-ne0 in
     let codes = c.read_codes-coded in
-    then_on_lem _ _ header.ensures count_in node_of if1.false
-    (then_on_lem _ _ count.ensures.0 codes_in node_of if2.false
+    then_on_lem _ _ header.ensures count_in node_of c.if-header-ne0.false
+    (then_on_lem _ _ count.ensures.0 codes_in node_of c.if-mark-ne0.false
     (made_stop _ _ _ _ codes.ensures (starts_in count.result.number) node_of _ c.if-behind-ne0.true))
 
 pub returns : goal.returns
 unfolding plan_lines
 returns c =
     let header = c.header_at-header in
-    let if1 = c.if-header-ne0 in
     let count = c.count_at-x in
-    let if2 = c.if-mark-ne0 in
     let codes = c.read_codes-coded in
-    let if3 = c.if-behind-ne0 in
     let starts = c.read_starts-starts in
-    then_on_lem _ _ header.ensures count_in node_of if1.false
-    (then_on_lem _ _ count.ensures.0 codes_in node_of if2.false
-    (made_on _ _ _ _ codes.ensures (starts_in count.result.number) node_of if3.false
+    then_on_lem _ _ header.ensures count_in node_of c.if-header-ne0.false
+    (then_on_lem _ _ count.ensures.0 codes_in node_of c.if-mark-ne0.false
+    (made_on _ _ _ _ codes.ensures (starts_in count.result.number) node_of c.if-behind-ne0.false
     (λ all e. starts_end _ _ count.result.number all _ e starts.ensures c.read_end.ensures)))

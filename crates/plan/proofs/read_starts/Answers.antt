@@ -8,8 +8,7 @@ use Rattle.plan.proofs.read_starts.Goals as goal
 
 pub count_at-x-requires : goal.count_at-x-requires
 count_at-x-requires c =
-    let pre = c.requires in
-    pre.0
+    c.requires.0
 
 pub returns-then-mark-ne0 : goal.returns-then-mark-ne0
 unfolding start_lines

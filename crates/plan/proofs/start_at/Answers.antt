@@ -10,8 +10,7 @@ pub returns-then-text-e : goal.returns-then-text-e
 returns-then-text-e c =
     let args = c.args in
     let found = c.line_end-e in
-    let pre = c.requires in
-    (line_missing _ _ pre found.ensures (start_line args.count args.last) _ c.if-text-e.true c.stopped_at.ensures, omega arith)
+    (line_missing _ _ c.requires found.ensures (start_line args.count args.last) _ c.if-text-e.true c.stopped_at.ensures, omega arith)
 
 pub slice_bounds-start_line-start : goal.slice_bounds-start_line-start
 slice_bounds-start_line-start c = line_start _ _ c.requires c.line_end-e.ensures
@@ -22,16 +21,12 @@ slice_bounds-start_line-count c = line_start _ _ c.requires c.line_end-e.ensures
 pub behind_line-requires : goal.behind_line-requires
 behind_line-requires c =
     let found = c.line_end-e in
-    let if1 = c.if-text-e in
-    let pre = c.requires in
-    line_short _ _ pre found.ensures if1.false
+    line_short _ _ c.requires found.ensures c.if-text-e.false
 
 pub returns : goal.returns
 unfolding start_line
 returns c =
     let args = c.args in
     let found = c.line_end-e in
-    let if1 = c.if-text-e in
-    let pre = c.requires in
     let told = c.start_line-x.ensures in
-    (line_read _ _ pre found.ensures (start_line args.count args.last) _ _ if1.false c.behind_line.ensures (ap start told), rw told (start_kept_lem args.count args.last _).process)
+    (line_read _ _ c.requires found.ensures (start_line args.count args.last) _ _ c.if-text-e.false c.behind_line.ensures (ap start told), rw told (start_kept_lem args.count args.last _).process)

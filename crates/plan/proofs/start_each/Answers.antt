@@ -20,12 +20,11 @@ start_at-x-requires c = c.loop-i.invariant.1.within
 pub returns-then-mark-ne0 : goal.returns-then-mark-ne0
 returns-then-mark-ne0 c =
     let args = c.args in
-    let loop-test = c.loop-i-test in
     let start-at = c.start_at-x in
     let turn = c.loop-i in
     mapped_on _ _ (begun (coded_node args.codes)) (with_each with_start (coded_node args.codes)) _
     (turn_stop _ _ _ turn.invariant.1 (λ (x : Start). x) (start_read _ turn.mark args.count (coded_node args.codes) turn.invariant.1.xs start-at.ensures.0 turn.invariant.1.made)
-    (left_one _ _ loop-test.true) (coded_node turn.n, before_first) c.if-mark-ne0.true)
+    (left_one _ _ c.loop-i-test.true) (coded_node turn.n, before_first) c.if-mark-ne0.true)
     (λ starts e. ap (λ (b : Node × ProcessNumber). b.0) e)
 
 pub bounds-n-k : goal.bounds-n-k
@@ -36,15 +35,13 @@ bounds-n-k c =
 pub loop-i-preserved : goal.loop-i-preserved
 loop-i-preserved c =
     let args = c.args in
-    let if1 = c.if-mark-ne0 in
-    let loop-test = c.loop-i-test in
     let start-at = c.start_at-x in
     let turn = c.loop-i in (
       search rules,
       turn_more _ _ _ turn.invariant.1 (λ (x : Start). x) (start_read _ turn.mark args.count (coded_node args.codes) turn.invariant.1.xs start-at.ensures.0 turn.invariant.1.made)
-          (left_one _ _ loop-test.true) if1.false
+          (left_one _ _ c.loop-i-test.true) c.if-mark-ne0.false
           (λ x e. begun_more (coded_node args.codes) turn.invariant.1.xs (started turn.n start-at.result.start c.index-k.ensures
-          (start_least _ turn.mark args.count turn.last start-at.ensures.0 if1.false)) turn.invariant.1.made e),
+          (start_least _ turn.mark args.count turn.last start-at.ensures.0 c.if-mark-ne0.false)) turn.invariant.1.made e),
     )
 
 pub returns : goal.returns
