@@ -143,7 +143,8 @@ module _ (k : ℕ) where
   of_kind (yes h) d f = of_owner (run i) (kind_run h) refl (rw h) (rw h)
   of_kind (no g) (yes h) f =
       let a : eqb (k / 65536) 1 ≡ true = rw h in
-      let known : not (numbered (action_of k)) ≡ false → So (is_number i) × So (is_number j) = λ ok. parts (is_number i) (is_number j) (rw (kind_arrive h) at (not-false (numbered (action_of k)) ok)) in
+      let known : not (numbered (action_of k)) ≡ false → So (is_number i) × So (is_number j) = λ ok. parts (is_number i) (is_number j)
+      (rw (kind_arrive h) at (not-false (numbered (action_of k)) ok)) in
       record {
         bad = refl;
         action = λ ok. kind_arrive h ∙ rw a;

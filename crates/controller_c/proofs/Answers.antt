@@ -40,9 +40,13 @@ module _ (x y : Loaded) (o : List ℕ) where
     pub written_back : {b : Behaviours} {s : Starts} {w : Written} {m : List ℕ} {k : ℕ} → q.number ≡ 0 → b ≡ node_behaviours p.node → s ≡ node_starts q.node
         → (w ≡ write_told (codes_of b) (starts_in s) o) × (m ≡ write_shown (codes_of b) (starts_in s) o) → k ≡ exported_written w → (k ≡ rewritten x y o) × (m ≡ rewritten_shown x y o)
     unfolding rewritten rewritten_shown
-    written_back h e f r t =
+    written_back {b = b} {s = s} h e f r t =
         let yes = eq-eqb x.number 0 (rw (← first) some) in
         let too = eq-eqb y.number 0 (rw (← second) h) in
-        let b = e ∙ ap (λ (l : Loaded). node_behaviours l.node) first in
-        let s = f ∙ ap (λ (l : Loaded). node_starts l.node) second in
-        (rw (yes, too, ← b, ← s, ← r.0) t, rw (yes, too, ← b, ← s) r.1)
+        let codes = e ∙ ap (λ (l : Loaded). node_behaviours l.node) first in
+        let begun = f ∙ ap (λ (l : Loaded). node_starts l.node) second in
+        let told = ap (λ (v : Behaviours). write_told (codes_of v) (starts_in s) o) codes
+            ∙ ap (λ (v : Starts). write_told (codes_of (node_behaviours x.node)) (starts_in v) o) begun in
+        let shown = ap (λ (v : Behaviours). write_shown (codes_of v) (starts_in s) o) codes
+            ∙ ap (λ (v : Starts). write_shown (codes_of (node_behaviours x.node)) (starts_in v) o) begun in
+        (rw (yes, too) (t ∙ ap exported_written (r.0 ∙ told)), rw (yes, too) (r.1 ∙ shown))

@@ -34,7 +34,8 @@ use Rattle.rules.specs.Answers.{Answer, refused, done, need, mailbox_full, mailb
 use Rattle.rules.specs.Arrive.{joins_with, exits, downs, takes, is_monitor, answers, arrives_in, arrives}
 use Rattle.rules.specs.Effects.{State, joining, Effect, becomes, ends, sends}
 use Rattle.rules.specs.Receive.{receives}
-use Rattle.rules.specs.Run.{sets_register, jumps_if, integer_in, on_integers, sets_sum, adds, compares, process_in, to_process, sends_to, to_other, stops, op_table, runs_op, closes_to, closes, runs_live}
+use Rattle.rules.specs.Run.{sets_register, jumps_if, integer_in, on_integers, sets_sum, adds, compares, process_in}
+use Rattle.rules.specs.Run.{to_process, sends_to, to_other, stops, op_table, runs_op, closes_to, closes, runs_live}
 use Rattle.rules.specs.Run.{runs_in, runs}
 use Rattle.rules.specs.Steps.{is_unborn}
 use Rattle.rules.specs.Timeout.{at_after, is_live, expires_live, expires_in, expires}

@@ -44,8 +44,8 @@ module _ (c n : ℕ) where
   abbrev pub read_left : Coded → List OperandKind → List (List ℕ) → Coded
   read_left o [] [] = o
   read_left o [] (l ∷ ls) = no_code
-  read_left o (kind ∷ kinds) [] = no_code
-  read_left o (kind ∷ kinds) (l ∷ ls) = read_left (with_joined o kind (operand_of c n kind l)) kinds ls
+  read_left o (k ∷ ks) [] = no_code
+  read_left o (k ∷ ks) (l ∷ ls) = read_left (with_joined o k (operand_of c n k l)) ks ls
 
   -- as many fields as kinds, or none of them counts
   left_counted : (o : Coded) (kinds : List OperandKind) (ls : List (List ℕ))
@@ -53,8 +53,8 @@ module _ (c n : ℕ) where
   unfolding operands_of
   left_counted o [] [] = refl
   left_counted o [] (l ∷ ls) = rw (eqb-suc-zero (length ls))
-  left_counted o (kind ∷ kinds) [] = rw (eqb-zero-suc (length kinds))
-  left_counted o (kind ∷ kinds) (l ∷ ls) = rw (eqb-suc-suc (length ls) (length kinds)) (left_counted (with_joined o kind (operand_of c n kind l)) kinds ls)
+  left_counted o (k ∷ ks) [] = rw (eqb-zero-suc (length ks))
+  left_counted o (k ∷ ks) (l ∷ ls) = rw (eqb-suc-suc (length ls) (length ks)) (left_counted (with_joined o k (operand_of c n k l)) ks ls)
 
   pub left_all : (k : ℕ) (ls : List (List ℕ)) → k < op_count → read_left (bare k) (kinds_of k) ls ≡ op_of c n k ls
   unfolding op_of

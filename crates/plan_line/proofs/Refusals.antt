@@ -92,9 +92,9 @@ module _ (c n : ℕ) where
   operands_told : (o : Coded) (kinds : List OperandKind) (ls : List (List ℕ)) → o.refusal ≤ out_of_range → (operands_of c n o kinds ls).refusal ≤ out_of_range
   unfolding operands_of
   operands_told o [] ls h = h
-  operands_told o (kind ∷ kinds) [] h = h
-  operands_told o (kind ∷ kinds) (l ∷ ls) h =
-      operands_told (with_joined o kind (operand_of c n kind l)) kinds ls (worse_most o.refusal (operand_of c n kind l).refusal out_of_range h (operand_told kind l) (omega arith))
+  operands_told o (k ∷ ks) [] h = h
+  operands_told o (k ∷ ks) (l ∷ ls) h =
+      operands_told (with_joined o k (operand_of c n k l)) ks ls (worse_most o.refusal (operand_of c n k l).refusal out_of_range h (operand_told k l) (omega arith))
 
   coded_told : (fields : List (List ℕ)) → (coded_of c n fields).refusal ≤ out_of_range
   unfolding coded_of op_of

@@ -100,8 +100,8 @@ with_joined o kind x = record { refusal = worse o.refusal x.refusal; op = with_o
 
 unfoldable pub operands_of : ℕ → ℕ → Coded → List OperandKind → List (List ℕ) → Coded
 operands_of c n o [] ls = o
-operands_of c n o (kind ∷ kinds) [] = o
-operands_of c n o (kind ∷ kinds) (l ∷ ls) = operands_of c n (with_joined o kind (operand_of c n kind l)) kinds ls
+operands_of c n o (k ∷ ks) [] = o
+operands_of c n o (k ∷ ks) (l ∷ ls) = operands_of c n (with_joined o k (operand_of c n k l)) ks ls
 
 pub record FieldEnd (s : List ℕ) (e : ℕ) : Type 0 where
   pub within : e ≤ length s

@@ -19,7 +19,8 @@ returns-then-l-ne0 c =
     let its-if1 = c.if-r-eq-NOT_SOUND in
     let its-list-sound = c.list_sound-l in
     let its-if2 = c.if-l-ne0 in
-    let x = listed_short its-args.n (map action_of its-args.numbers.now) _ its-play.result its-play.ensures its-if1.false its-list-sound.result _ (its-list-sound.ensures.answer, its-list-sound.ensures.buffer) its-if2.true in
+    let x = listed_short its-args.n (map action_of its-args.numbers.now) _ its-play.result its-play.ensures its-if1.false its-list-sound.result _
+    (its-list-sound.ensures.answer, its-list-sound.ensures.buffer) its-if2.true in
     record { answer = x.0; buffer = x.1 }
 
 pub returns : goal.returns
@@ -29,5 +30,6 @@ returns c =
     let its-if1 = c.if-r-eq-NOT_SOUND in
     let its-list-sound = c.list_sound-l in
     let its-if2 = c.if-l-ne0 in
-    let x = listed_whole its-args.n (map action_of its-args.numbers.now) _ its-play.result its-play.ensures its-if1.false its-list-sound.result _ (its-list-sound.ensures.answer, its-list-sound.ensures.buffer) its-if2.false in
+    let x = listed_whole its-args.n (map action_of its-args.numbers.now) _ its-play.result its-play.ensures its-if1.false its-list-sound.result _
+    (its-list-sound.ensures.answer, its-list-sound.ensures.buffer) its-if2.false in
     record { answer = x.0; buffer = x.1 }

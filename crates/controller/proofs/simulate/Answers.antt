@@ -20,7 +20,8 @@ returns-then-s-ne0 c =
     let its-read = c.read-s in
     let its-if2 = c.if-s-ne0 in
     let its-show-refused2 = c.show_refused-then-s-ne0 in
-    let x = as_text _ (text_steps its-args.plan.now its-args.steps.now its-load.ensures its-if1.false its-read.ensures its-if2.true) (its-show-refused2.ensures.answer, its-show-refused2.ensures.buffer) in
+    let x = as_text _ (text_steps its-args.plan.now its-args.steps.now its-load.ensures its-if1.false its-read.ensures its-if2.true)
+    (its-show-refused2.ensures.answer, its-show-refused2.ensures.buffer) in
     record { answer = x.0; buffer = x.1 }
 
 pub slice_bounds-numbers-end : goal.slice_bounds-numbers-end
@@ -44,5 +45,6 @@ returns c =
     let its-if2 = c.if-s-ne0 in
     let its-play = c.play in
     let its-show-played = c.show_played in
-    let x = as_text _ (text_played its-args.plan.now its-args.steps.now its-load.ensures its-if1.false its-read.ensures its-if2.false its-play.ensures) (its-show-played.ensures.answer, its-show-played.ensures.buffer) in
+    let x = as_text _ (text_played its-args.plan.now its-args.steps.now its-load.ensures its-if1.false its-read.ensures its-if2.false its-play.ensures)
+    (its-show-played.ensures.answer, its-show-played.ensures.buffer) in
     record { answer = x.0; buffer = x.1 }

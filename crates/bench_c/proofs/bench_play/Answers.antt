@@ -1,0 +1,28 @@
+-- `bench_play` plays what it loaded and read. Assumes nothing.
+use mathlib.Core.Path.{◌∙◌}
+use borrow.Author.Rules.{rules}
+use Rattle.controller.proofs.Room.{count_room, count_taken}
+use Rattle.rules.specs.Steps.{play}
+use Rattle.bench_c.specs.Rounds.{after}
+use Rattle.bench_c.proofs.Laws.{of_texts}
+use Rattle.bench_c.proofs.bench_play.Goals as goal
+
+pub slice_bounds-numbers-end : goal.slice_bounds-numbers-end
+slice_bounds-numbers-end c =
+    let its-read = c.read-s in
+    let its-args = c.args in
+    count_room its-args.steps.now its-read.ensures
+
+pub slice_bounds-plays-end : goal.slice_bounds-plays-end
+slice_bounds-plays-end c =
+    let its-read = c.read-s in
+    let its-args = c.args in
+    count_taken its-args.steps.now its-read.ensures
+
+pub returns : goal.returns
+returns c =
+    let its-plays = c.plays in
+    let its-read = c.read-s in
+    let its-load = c.load-l in
+    let its-args = c.args in
+    its-plays.ensures ∙ of_texts (λ n l. after its-args.rounds 0 (play n l).accepted) its-args.plan.now its-args.steps.now its-load.ensures its-read.ensures

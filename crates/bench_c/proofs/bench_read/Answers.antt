@@ -1,0 +1,21 @@
+-- `bench_read` tells the count of the last reading. Assumes nothing.
+use mathlib.Core.Path.{ap}
+use Prim.Native.Nat.{◌-◌}
+use borrow.Author.Rules.{rules}
+use Rattle.schedule.specs.Reading.{schedule_of}
+use Rattle.schedule.specs.declared.Schedule.{Schedule}
+use Rattle.bench_c.proofs.Laws.{Turn, turn_first, turn_next, turn_last}
+use Rattle.bench_c.proofs.bench_read.Goals as goal
+
+pub loop-i-init : goal.loop-i-init
+loop-i-init c = turn_first
+
+pub loop-i-preserved : goal.loop-i-preserved
+loop-i-preserved c =
+    let its-read = c.read-s in
+    let its-loop-test = c.loop-i-test in
+    let its-loop = c.loop-i in
+    turn_next its-loop.invariant its-loop-test.true (ap (λ (r : Schedule). r.count) its-read.ensures)
+
+pub returns : goal.returns
+returns c = turn_last c.loop-i.invariant c.loop-i-test.false

@@ -1,0 +1,15 @@
+-- `plays_lent` tells the count of the last play. Assumes nothing.
+use mathlib.Core.List.{map}
+use mathlib.Core.Path.{ap}
+use Prim.Native.Nat.{◌-◌}
+use borrow.Author.Rules.{rules}
+use Rattle.actions.specs.Numbers.{action_of}
+use Rattle.rules.specs.Steps.{Outcome, play}
+use Rattle.bench_c.proofs.Laws.{Turn, turn_first, turn_next, turn_last}
+use Rattle.bench_c.proofs.rounds.plays_lent.Given as goal
+
+abbrev pub invariant-loop-i : goal.invariant-loop-i
+invariant-loop-i l = Turn l.rounds 0 (play l.n (map action_of l.numbers)).accepted l.i l.last
+
+abbrev pub decreases-loop-i : goal.decreases-loop-i
+decreases-loop-i l = l.rounds - l.i

@@ -1,0 +1,15 @@
+-- `suggests` counts the rounds in which no step was suggested on a sound node. Assumes nothing.
+use mathlib.Core.Logic.{⊎_elim}
+use mathlib.Core.Path.{◌∙◌, ap}
+use Prim.Native.Nat.{◌-◌}
+use borrow.Author.Rules.{rules}
+use Rattle.rules.specs.Suggest.{suggest}
+use Rattle.bench_c.specs.Rounds.{says_none, stuck_in}
+use Rattle.bench_c.proofs.Laws.{Said, said_first, said_more, said_same, said_last, says_none_lem}
+use Rattle.bench_c.proofs.rounds.suggests.Given as goal
+
+abbrev pub invariant-loop-i : goal.invariant-loop-i
+invariant-loop-i l = Said l.rounds (says_none (suggest l.n)) l.i l.said
+
+abbrev pub decreases-loop-i : goal.decreases-loop-i
+decreases-loop-i l = l.rounds - l.i
