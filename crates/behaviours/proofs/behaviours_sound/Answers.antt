@@ -15,9 +15,6 @@ use native.Mathlib.Omega.{arith}
 use Rattle.behaviours.proofs.behaviours_sound.Goals as goal
 use Rattle.behaviours.proofs.behaviours_sound.Goals.{then-to-len+else-is_part, else-to-len}
 
-pub returns-then-not-within : goal.returns-then-not-within
-returns-then-not-within c = rw (sym c.within.ensures ∙ c.if-not-within.true)
-
 pub loop-b-init : goal.loop-b-init
 loop-b-init c =
     let a = c.args in
@@ -40,12 +37,6 @@ returns-then-not-op_sound c =
     let s = sym c.within-in-loop-b.ensures ∙ c.if-not-within-2.false in
     let size = within_is n 1 32 s in
     rw w (op_stop a.count a.lens a.ops l.b (omega arith) l.invariant.4 (omega arith) (sym c.op_sound.ensures ∙ c.if-not-op_sound.true))
-
-pub bounds-ops-b-then-to-len : goal.bounds-ops-b-then-to-len
-bounds-ops-b-then-to-len c =
-    let n = get_or c.args.lens c.loop-b.b 0 in
-    let most : n ≤ 32 = (within_is n 1 32 (sym c.within-in-loop-b.ensures ∙ c.if-not-within-2.false)).1 in
-    search rules
 
 pub returns-then-is_part : goal.returns-then-is_part
 returns-then-is_part c =

@@ -5,11 +5,5 @@ use borrow.Author.Tests.{ne_eqb, le-leb, lt-leb}
 use Rattle.node.proofs.Values.{int_fits}
 use Rattle.behaviours.proofs.clause_kind_sound.Goals as goal
 
-pub returns-then-kind-gt-LAST_KIND : goal.returns-then-kind-gt-LAST_KIND
-returns-then-kind-gt-LAST_KIND c = rw (lt-leb _ _ c.if-kind-gt-LAST_KIND.true)
-
-pub returns-then-kind-eq-EXACT : goal.returns-then-kind-eq-EXACT
-returns-then-kind-eq-EXACT c = rw c.if-kind-eq-EXACT.true c.value_sound.ensures
-
 pub returns : goal.returns
 returns c = rw (le-leb _ _ c.if-kind-gt-LAST_KIND.false, ne_eqb _ _ c.if-kind-eq-EXACT.false, int_fits (pos 0) (record { sfits = omega arith }))

@@ -6,10 +6,6 @@ use Rattle.behaviours.specs.Codes.{placed_by}
 use borrow.Author.Tests.{eq-eqb, ne_eqb}
 use Rattle.behaviours.proofs.op_sound.Goals as goal
 
-pub returns-then-not-in_range : goal.returns-then-not-in_range
-unfolding placed_by instruction
-returns-then-not-in_range c = rw (sym c.in_range.ensures ∙ c.if-not-in_range.true)
-
 pub returns-then-number-eq-CLAUSE : goal.returns-then-number-eq-CLAUSE
 unfolding placed_by instruction
 returns-then-number-eq-CLAUSE c = rw (sym c.in_range.ensures ∙ c.if-not-in_range.false, eq-eqb _ clause_op c.if-number-eq-CLAUSE.true)

@@ -32,8 +32,3 @@ loop-i-preserved c =
           c.op_of-op.ensures c.if-op-ne-CLAUSE.false,
     )
 
-pub returns : goal.returns
-returns c =
-    let args = c.args in
-    let turn = c.loop-i in
-    clauses_end args.len args.ops args.k args.t args.n turn.invariant.1 turn.i turn.invariant.2 (omega arith)

@@ -23,9 +23,6 @@ returns-then-behaviours_sound c =
     let all = sym c.behaviours_sound.ensures ∙ c.if-behaviours_sound.true in
     sym (misplaced_sound args.count first_code codes (parts (leb 1 args.count && leb args.count 8) (all_of (code_sound args.count) codes) all).1)
 
-pub loop-k-init : goal.loop-k-init
-loop-k-init c = (search rules, omega arith, refl)
-
 pub returns-then-found-ne0 : goal.returns-then-found-ne0
 returns-then-found-ne0 c =
     let args = c.args in

@@ -12,15 +12,6 @@ use Rattle.behaviours.proofs.Codes.{code_length}
 use Rattle.placement.proofs.Laws.{op_is, in_begin, in_stop, in_more, in_end}
 use Rattle.placement.proofs.misplaced_in.Goals as goal
 
-pub loop-t-init : goal.loop-t-init
-loop-t-init c = (search rules, refl, in_begin _ _)
-
-pub well_placed-requires : goal.well_placed-requires
-well_placed-requires c = (search rules, c.loop-t.invariant.1)
-
-pub overflow_add-result : goal.overflow_add-result
-overflow_add-result c = omega (arith, c.requires)
-
 pub returns-then-not-well_placed : goal.returns-then-not-well_placed
 returns-then-not-well_placed c =
     let args = c.args in

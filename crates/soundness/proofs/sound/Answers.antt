@@ -86,9 +86,6 @@ returns-then-k-ge256 c =
     let n = c.args.n in
     sym (ends (row_blocks n) _ c.if-k-ge256.true (first n c.loop-i.i c.busy_from-k.result c.loop-i.invariant.1 (omega arith) c.busy_from-k.ensures))
 
-pub loop-k-init : goal.loop-k-init
-loop-k-init c = record { gives = refl }
-
 pub returns-then-held-gt4 : goal.returns-then-held-gt4
 returns-then-held-gt4 c =
     let n = c.args.n in
@@ -118,9 +115,6 @@ loop-m-2-preserved c =
     let t = c.loop-m-2 in
     let sound = sym c.signal_sound.ensures ∙ c.if-not-signal_sound.false in
     (search rules, more (row_blocks n) l.k t.m c.if-held-gt4.false t.invariant.1 c.loop-m-2-test.true sound)
-
-pub loop-k-smaller : goal.loop-k-smaller
-loop-k-smaller c = omega (arith, c.busy_from-k-in-loop-k.ensures.behind)
 
 pub loop-k-preserved : goal.loop-k-preserved
 loop-k-preserved c =
