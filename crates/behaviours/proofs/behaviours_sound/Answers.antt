@@ -1,5 +1,5 @@
 -- `behaviours_sound` tests op after op, behaviour after behaviour. The loop keeps that what is left gives the answer. Assumes nothing.
-use Prim.Native.Nat.{◌+◌, ◌*◌, ◌≤◌}
+use Prim.Native.Nat.{◌+◌, ◌*◌}
 use Rattle.node.specs.Nodes.{no_op}
 use Rattle.rules.specs.Behaviours.{instruction, targets_free}
 use Rattle.behaviours.proofs.Codes.{lands_at, lands_free}

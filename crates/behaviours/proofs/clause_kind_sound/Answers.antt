@@ -1,7 +1,7 @@
 -- `clause_kind_sound` tests the value only where the kind has one. Assumes nothing.
 use native.Mathlib.Omega.{arith}
 use lib.IntN.{pos}
-use borrow.Author.Tests.{ne_eqb, le-leb, lt-leb}
+use borrow.Author.Tests.{ne_eqb, le-leb}
 use Rattle.node.proofs.Values.{int_fits}
 use Rattle.behaviours.proofs.clause_kind_sound.Goals as goal
 

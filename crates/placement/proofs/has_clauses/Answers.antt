@@ -1,8 +1,7 @@
 -- `has_clauses` tests the ops behind a recv. The loop keeps that those that are left give the answer. Assumes nothing.
 use mathlib.Core.Path.{refl}
-use native.Mathlib.Omega.{arith}
 use borrow.Author.Rules.{rules}
-use Rattle.placement.proofs.Laws.{clauses_few, clauses_begin, clause_stop, clause_more, clauses_end}
+use Rattle.placement.proofs.Laws.{clauses_few, clauses_begin, clause_stop, clause_more}
 use Rattle.placement.proofs.has_clauses.Goals as goal
 
 pub returns-then-len-next : goal.returns-then-len-next
@@ -31,4 +30,3 @@ loop-i-preserved c =
       clause_more args.len args.ops args.k args.t args.n turn.invariant.1 turn.i turn.invariant.2 c.loop-i-test.true
           c.op_of-op.ensures c.if-op-ne-CLAUSE.false,
     )
-

@@ -1,6 +1,6 @@
 -- `misplaced_in` walks the ops of a behaviour. The loop keeps how many parts of a recv may stand, and that the ops that are left give the answer.
 -- Assumes nothing.
-use mathlib.Core.Path.{◌≡◌, refl, ◌∙◌, sym}
+use mathlib.Core.Path.{◌≡◌, ◌∙◌, sym}
 use native.Mathlib.Omega.{arith}
 use borrow.Author.Rules.{rules}
 use lib.ListN.{length}
@@ -9,7 +9,7 @@ use Rattle.rules.specs.Behaviours.{instruction}
 use Rattle.behaviours.specs.Codes.{code_in}
 use Rattle.behaviours.proofs.Clauses.{turn_due}
 use Rattle.behaviours.proofs.Codes.{code_length}
-use Rattle.placement.proofs.Laws.{op_is, in_begin, in_stop, in_more, in_end}
+use Rattle.placement.proofs.Laws.{op_is, in_stop, in_more, in_end}
 use Rattle.placement.proofs.misplaced_in.Goals as goal
 
 pub returns-then-not-well_placed : goal.returns-then-not-well_placed

@@ -1,14 +1,11 @@
 -- `coded_node` gives the node of a plan. The invariant: the processes before k are those of their starts. Assumes nothing.
-use mathlib.Core.Path.{◌≡◌, refl, ◌∙◌}
+use mathlib.Core.Path.{◌≡◌, ◌∙◌}
 use native.Mathlib.Omega.{arith}
 use borrow.Author.Rules.{rules}
 use lib.ListN.{length}
 use Rattle.node.specs.Nodes.{blank_node}
 use Rattle.plan.proofs.Nodes.{started_more, started_all}
 use Rattle.plan.proofs.coded_node.Goals as goal
-
-pub loop-k-init : goal.loop-k-init
-loop-k-init c = (search rules, refl)
 
 pub loop-k-preserved : goal.loop-k-preserved
 loop-k-preserved c =

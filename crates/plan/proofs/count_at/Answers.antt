@@ -3,7 +3,7 @@ use mathlib.Core.Path.{ap}
 use native.Mathlib.Omega.{arith}
 use Rattle.plan_line.specs.Lines.{number, count_line}
 use Rattle.plan_line.proofs.Ranges.{count_kept}
-use Rattle.plan.proofs.Marks.{line_start, line_short, line_missing, line_read}
+use Rattle.plan.proofs.Marks.{line_start, line_missing, line_read}
 use Rattle.plan.proofs.count_at.Goals as goal
 
 pub returns-then-text-e : goal.returns-then-text-e
@@ -17,11 +17,6 @@ slice_bounds-count_line-start c = line_start _ _ c.requires c.line_end-e.ensures
 
 pub slice_bounds-count_line-count : goal.slice_bounds-count_line-count
 slice_bounds-count_line-count c = line_start _ _ c.requires c.line_end-e.ensures
-
-pub behind_line-requires : goal.behind_line-requires
-behind_line-requires c =
-    let found = c.line_end-e in
-    line_short _ _ c.requires found.ensures c.if-text-e.false
 
 pub returns : goal.returns
 unfolding count_line

@@ -2,7 +2,7 @@
 use mathlib.Core.Path.{ap}
 use Prim.Native.Nat.{ℕ}
 use Rattle.plan_line.specs.Lines.{answered, header_line}
-use Rattle.plan.proofs.Marks.{line_start, line_short, line_missing, line_read}
+use Rattle.plan.proofs.Marks.{line_start, line_missing, line_read}
 use Rattle.plan.proofs.header_at.Goals as goal
 
 pub returns-then-text-e : goal.returns-then-text-e
@@ -15,11 +15,6 @@ slice_bounds-header_line-start c = line_start _ _ c.requires c.line_end-e.ensure
 
 pub slice_bounds-header_line-count : goal.slice_bounds-header_line-count
 slice_bounds-header_line-count c = line_start _ _ c.requires c.line_end-e.ensures
-
-pub behind_line-requires : goal.behind_line-requires
-behind_line-requires c =
-    let found = c.line_end-e in
-    line_short _ _ c.requires found.ensures c.if-text-e.false
 
 pub returns : goal.returns
 unfolding header_line

@@ -1,7 +1,7 @@
 -- `op_at` reads one line: a line that is there by its kind, and a missing one as 11. Assumes nothing.
 use mathlib.Core.Path.{ap}
 use Rattle.plan_line.specs.Lines.{op, op_line}
-use Rattle.plan.proofs.Marks.{line_start, line_short, line_missing, line_read}
+use Rattle.plan.proofs.Marks.{line_start, line_missing, line_read}
 use Rattle.plan.proofs.op_at.Goals as goal
 
 pub returns-then-text-e : goal.returns-then-text-e
@@ -15,11 +15,6 @@ slice_bounds-op_line-start c = line_start _ _ c.requires c.line_end-e.ensures
 
 pub slice_bounds-op_line-count : goal.slice_bounds-op_line-count
 slice_bounds-op_line-count c = line_start _ _ c.requires c.line_end-e.ensures
-
-pub behind_line-requires : goal.behind_line-requires
-behind_line-requires c =
-    let found = c.line_end-e in
-    line_short _ _ c.requires found.ensures c.if-text-e.false
 
 pub returns : goal.returns
 unfolding op_line

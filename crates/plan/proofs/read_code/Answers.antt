@@ -1,7 +1,6 @@
 -- `read_code` reads a behaviour: its line `code=`, and its ops. Assumes nothing.
 use mathlib.Core.List.{[]}
 use Prim.Native.Nat.{ℕ}
-use native.Mathlib.Omega.{arith}
 use Rattle.plan_line.specs.Lines.{op_line}
 use Rattle.plan.specs.Plans.{coded_node, more, code_lines, with_code}
 use Rattle.plan.specs.Reading.{Left, on_line, times}
@@ -9,25 +8,12 @@ use Rattle.plan.proofs.Loops.{mapped_on, then_stop, then_on_lem}
 use Rattle.plan.proofs.Nodes.{counted_code}
 use Rattle.plan.proofs.read_code.Goals as goal
 
-pub count_at-x-requires : goal.count_at-x-requires
-count_at-x-requires c =
-    c.requires.0
-
 pub returns-then-mark-ne0 : goal.returns-then-mark-ne0
 unfolding code_lines
 returns-then-mark-ne0 c =
     let args = c.args in
     let count_at = c.count_at-x in
     then_stop _ _ count_at.ensures.0 (λ (n : ℕ) (l : Left). times n (more (on_line (op_line args.count n))) [] l) (with_code (coded_node args.codes)) _ c.if-mark-ne0.true
-
-pub read_ops-y-requires : goal.read_ops-y-requires
-read_ops-y-requires c =
-    let count_at = c.count_at-x in
-    (count_at.ensures.0.within, c.if-mark-ne0.false, c.requires.2, count_at.ensures.1)
-
-pub overflow_add-n : goal.overflow_add-n
-overflow_add-n c =
-    omega (arith, c.requires.2)
 
 pub returns : goal.returns
 unfolding code_lines

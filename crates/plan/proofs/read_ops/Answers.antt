@@ -10,15 +10,9 @@ use Rattle.plan.proofs.Loops.{mapped_same, mapped_on, left_one, turn_begin, turn
 use Rattle.plan.proofs.Nodes.{ops_anew, ops_next}
 use Rattle.plan.proofs.read_ops.Goals as goal
 
-pub bounds-n-b : goal.bounds-n-b
-bounds-n-b c = c.requires.2
-
 pub loop-i-init : goal.loop-i-init
 loop-i-init c =
     (search rules, turn_begin _ _ _ _ _ c.requires.1 c.requires.0 (sym (ops_anew (coded_node c.args.codes) [])))
-
-pub op_at-x-requires : goal.op_at-x-requires
-op_at-x-requires c = c.loop-i.invariant.1.within
 
 pub returns-then-mark-ne0 : goal.returns-then-mark-ne0
 returns-then-mark-ne0 c =
@@ -29,25 +23,6 @@ returns-then-mark-ne0 c =
     (turn_stop _ _ _ turn.invariant.1 (λ (x : Op). x) (record { is = op_at_lem.ensures.is ∙ mapped_same _; within = op_at_lem.ensures.within })
     (left_one _ _ c.loop-i-test.true) (coded_node turn.n) c.if-mark-ne0.true)
     (λ ops e. e ∙ ops_anew (coded_node args.codes) ops)
-
-pub overflow_mul-at : goal.overflow_mul-at
-overflow_mul-at c =
-    omega (arith, c.requires.2)
-
-pub overflow_add-at : goal.overflow_add-at
-overflow_add-at c =
-    omega (arith, c.requires.2)
-
-pub bounds-n-b-in-loop-i : goal.bounds-n-b-in-loop-i
-bounds-n-b-in-loop-i c = c.requires.2
-
-pub offset_bounds-n-at : goal.offset_bounds-n-at
-offset_bounds-n-at c =
-    omega (arith, c.requires.2, c.requires.3)
-
-pub bounds-n-at : goal.bounds-n-at
-bounds-n-at c =
-    omega (arith, c.requires.2, c.requires.3, c.loop-i-test.true)
 
 pub loop-i-preserved : goal.loop-i-preserved
 loop-i-preserved c =

@@ -6,21 +6,12 @@ use Rattle.plan.specs.Reading.{Left, times}
 use Rattle.plan.proofs.Loops.{then_stop, then_on_lem}
 use Rattle.plan.proofs.read_starts.Goals as goal
 
-pub count_at-x-requires : goal.count_at-x-requires
-count_at-x-requires c =
-    c.requires.0
-
 pub returns-then-mark-ne0 : goal.returns-then-mark-ne0
 unfolding start_lines
 returns-then-mark-ne0 c =
     let args = c.args in
     let count_at = c.count_at-x in
     then_stop _ _ count_at.ensures.0 (λ (n : ℕ) (l : Left). times n (start_more args.count) [] l) (with_each with_start (coded_node args.codes)) _ c.if-mark-ne0.true
-
-pub start_each-requires : goal.start_each-requires
-start_each-requires c =
-    let count_at = c.count_at-x in
-    (count_at.ensures.0.within, c.if-mark-ne0.false)
 
 pub returns : goal.returns
 unfolding start_lines

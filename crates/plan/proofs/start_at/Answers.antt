@@ -1,7 +1,7 @@
 -- `start_at` reads one line: a line that is there by its kind, and a missing one as 11. Assumes nothing.
 use mathlib.Core.Path.{ap}
 use native.Mathlib.Omega.{arith}
-use Rattle.plan.proofs.Marks.{line_start, line_short, line_missing, line_read}
+use Rattle.plan.proofs.Marks.{line_start, line_missing, line_read}
 use Rattle.plan_line.specs.Lines.{start, start_line}
 use Rattle.plan_line.proofs.Ranges.{start_kept_lem}
 use Rattle.plan.proofs.start_at.Goals as goal
@@ -17,11 +17,6 @@ slice_bounds-start_line-start c = line_start _ _ c.requires c.line_end-e.ensures
 
 pub slice_bounds-start_line-count : goal.slice_bounds-start_line-count
 slice_bounds-start_line-count c = line_start _ _ c.requires c.line_end-e.ensures
-
-pub behind_line-requires : goal.behind_line-requires
-behind_line-requires c =
-    let found = c.line_end-e in
-    line_short _ _ c.requires found.ensures c.if-text-e.false
 
 pub returns : goal.returns
 unfolding start_line

@@ -1,5 +1,5 @@
 -- `start_each` reads starts. The invariant: those that are read are started, and those that are left give the answer. Assumes nothing.
-use mathlib.Core.Path.{refl, ap}
+use mathlib.Core.Path.{ap}
 use native.Mathlib.Omega.{arith}
 use borrow.Author.Rules.{rules}
 use Rattle.node.specs.declared.Node.{Node}
@@ -7,15 +7,9 @@ use Rattle.node.specs.declared.ProcessNumber.{ProcessNumber}
 use Rattle.plan.specs.Plans.{coded_node, before_first, with_start, with_each}
 use Rattle.plan_line.specs.declared.Start.{Start}
 use Rattle.plan.proofs.Kept.{start_least}
-use Rattle.plan.proofs.Loops.{mapped_on, left_one, turn_begin, turn_more, turn_stop, turn_end}
+use Rattle.plan.proofs.Loops.{mapped_on, left_one, turn_more, turn_stop, turn_end}
 use Rattle.plan.proofs.Nodes.{begun, begun_more, start_read, started}
 use Rattle.plan.proofs.start_each.Goals as goal
-
-pub loop-i-init : goal.loop-i-init
-loop-i-init c = (search rules, turn_begin _ _ _ _ _ c.requires.1 c.requires.0 refl)
-
-pub start_at-x-requires : goal.start_at-x-requires
-start_at-x-requires c = c.loop-i.invariant.1.within
 
 pub returns-then-mark-ne0 : goal.returns-then-mark-ne0
 returns-then-mark-ne0 c =
@@ -26,11 +20,6 @@ returns-then-mark-ne0 c =
     (turn_stop _ _ _ turn.invariant.1 (λ (x : Start). x) (start_read _ turn.mark args.count (coded_node args.codes) turn.invariant.1.xs start-at.ensures.0 turn.invariant.1.made)
     (left_one _ _ c.loop-i-test.true) (coded_node turn.n, before_first) c.if-mark-ne0.true)
     (λ starts e. ap (λ (b : Node × ProcessNumber). b.0) e)
-
-pub bounds-n-k : goal.bounds-n-k
-bounds-n-k c =
-    let start-at = c.start_at-x in
-    omega (arith, c.index-k.ensures, start-at.ensures.1)
 
 pub loop-i-preserved : goal.loop-i-preserved
 loop-i-preserved c =

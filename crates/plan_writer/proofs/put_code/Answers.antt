@@ -3,11 +3,7 @@ use Prim.Native.Nat.{◌≤◌, ◌<◌}
 use native.Mathlib.Omega.{arith}
 use borrow.Author.Rules.{rules}
 use Rattle.plan_writer.proofs.Laws.{code_wrote, left_op, ops_end}
-use Rattle.text.proofs.Writing.{left_behind, wrote_length}
 use Rattle.plan_writer.proofs.put_code.Goals as goal
-
-pub loop-t-init : goal.loop-t-init
-loop-t-init c = (search rules, search rules, search rules, left_behind _ c.put_number_line-e.ensures)
 
 pub loop-t-preserved : goal.loop-t-preserved
 loop-t-preserved c =
@@ -19,6 +15,3 @@ pub returns : goal.returns
 returns c =
     let none : c.args.len ≤ c.loop-t.t = omega (arith, c.loop-t-test.false) in
     code_wrote _ _ _ c.put_number_line-e.ensures (ops_end _ _ _ _ c.loop-t.invariant.3 none)
-
-pub shape_of-out : goal.shape_of-out
-shape_of-out c = wrote_length (returns c)

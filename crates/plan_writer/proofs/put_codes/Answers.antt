@@ -3,11 +3,7 @@ use native.Mathlib.Omega.{arith}
 use borrow.Author.Rules.{rules}
 use Rattle.plan_writer.proofs.Laws.{codes_end, left_code}
 use Rattle.plan_writer.proofs.Tests.{code_within}
-use Rattle.text.proofs.Writing.{left_all}
 use Rattle.plan_writer.proofs.put_codes.Goals as goal
-
-pub loop-k-init : goal.loop-k-init
-loop-k-init c = (search rules, search rules, left_all _ _ _ (omega arith) (omega arith))
 
 pub put_code-e-requires : goal.put_code-e-requires
 put_code-e-requires c =
@@ -18,9 +14,6 @@ put_code-e-requires c =
 pub loop-k-preserved : goal.loop-k-preserved
 loop-k-preserved c =
     (search rules, c.loop-k.invariant.1, left_code _ _ _ _ c.loop-k.invariant.2 c.loop-k-test.true c.put_code-e.ensures)
-
-pub shape_of-out : goal.shape_of-out
-shape_of-out c = c.loop-k.invariant.2.same
 
 pub returns : goal.returns
 returns c = codes_end _ _ _ _ c.loop-k.invariant.2 c.loop-k-test.false

@@ -1,7 +1,7 @@
 -- `put_plan` writes the parts of a plan. Assumes nothing.
 use Rattle.plan_writer.proofs.Tests.{codes_few, codes_sound_lem, starts_within}
 use Rattle.plan_writer.proofs.Laws.{plan_parts}
-use Rattle.text.proofs.Writing.{wrote_as, wrote_length, ◌▸◌}
+use Rattle.text.proofs.Writing.{wrote_as, ◌▸◌}
 use Rattle.plan_writer.proofs.put_plan.Goals as goal
 
 pub put_codes-e-requires : goal.put_codes-e-requires
@@ -18,6 +18,3 @@ returns c =
     let start = c.args in
     wrote_as (plan_parts start.behaviours start.starts)
     (c.put_bytes-e.ensures ▸ c.put_number_line-e.ensures ▸ c.put_codes-e.ensures ▸ c.put_number_line-e-2.ensures ▸ c.put_starts.ensures)
-
-pub shape_of-out : goal.shape_of-out
-shape_of-out c = wrote_length (returns c)

@@ -1,5 +1,5 @@
 -- `put_start` writes a line `start=`. Assumes nothing.
-use Rattle.text.proofs.Writing.{wrote_length, ◌▸◌}
+use Rattle.text.proofs.Writing.{◌▸◌}
 use Rattle.plan_writer.specs.Texts.{start_row}
 use Rattle.plan_writer.proofs.put_start.Goals as goal
 
@@ -7,6 +7,3 @@ pub returns : goal.returns
 unfolding start_row
 returns c =
     c.put_bytes-e.ensures ▸ c.put_number-e.ensures ▸ c.put_byte-e.ensures ▸ c.put_number-e-2.ensures ▸ c.put_byte.ensures
-
-pub shape_of-out : goal.shape_of-out
-shape_of-out c = wrote_length (returns c)

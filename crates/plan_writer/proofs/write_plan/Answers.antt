@@ -1,5 +1,4 @@
 -- `write_plan` tests first, then counts the text over an empty slice, and answers 30 or writes it. Assumes nothing.
-use mathlib.Core.Path.{sym, ◌∙◌}
 use native.Mathlib.Omega.{arith}
 use Rattle.listing.proofs.Laws.{told_short, told_whole}
 use Rattle.plan_writer.proofs.Answers.{write_allowed, write_refused}
@@ -11,17 +10,11 @@ returns-then-not-plan_sound c =
     let told = write_refused _ _ c.args.out.now c.plan_sound.ensures c.if-not-plan_sound.true in
     record { answer = told.0; buffer = told.1 }
 
-pub put_plan-counted-requires : goal.put_plan-counted-requires
-put_plan-counted-requires c = sym c.plan_sound.ensures ∙ c.if-not-plan_sound.false
-
 pub returns-then-out-counted : goal.returns-then-out-counted
 returns-then-out-counted c =
     let short = counted_short c.put_plan-counted.ensures (omega (arith, c.well_formed.1.1.0.1)) c.if-out-counted.true in
     let told = write_allowed _ _ c.args.out.now c.plan_sound.ensures c.if-not-plan_sound.false (told_short _ _ short) in
     record { answer = told.0; buffer = told.1 }
-
-pub put_plan-length-requires : goal.put_plan-length-requires
-put_plan-length-requires c = sym c.plan_sound.ensures ∙ c.if-not-plan_sound.false
 
 pub returns : goal.returns
 returns c =
