@@ -76,7 +76,8 @@ module _ {A : Type 0} where
     pub part_read : (d : A) (k : ℕ) → low ≤ k → k < end → get_or (take n (drop at xs)) (k - low) d ≡ get_or xs k d
     part_read d k h g =
         let there : low + (k - low) ≡ k = omega (arith, h) in
-        get_or-take n (drop at xs) (k - low) d (omega (arith, h, g, e)) ∙ ap (λ (t : List A). get_or t (k - low) d) (sym from_low) ∙ get_or-drop low xs (k - low) d ∙ ap (λ (j : ℕ). get_or xs j d) there
+        get_or-take n (drop at xs) (k - low) d (omega (arith, h, g, e)) ∙ ap (λ (t : List A). get_or t (k - low) d) (sym from_low)
+        ∙ get_or-drop low xs (k - low) d ∙ ap (λ (j : ℕ). get_or xs j d) there
 
 -- ---- the turns of a search for g, whose messages are ms and whose clauses are cs
 

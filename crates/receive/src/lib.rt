@@ -252,6 +252,7 @@ fn awaits_live(p: Process, len: u8, op: Op) -> bool
 
 // 28: the refusal of a timeout at the recv at `place` of a code of len ops, where the search of the mailbox answered `found` and `behind` is
 // what stands behind its clauses, if that is within the code.
+#[tactic(auto, using(std::proofs::lemmas::Bool::Decides::nat_tests), unfolding(crate::specs::Waiting::timeout_refusal))]
 pub fn timeout_refusal(found: Found, place: u8, clauses: u8, len: u8, behind: Op) -> u8
     ensures { result ≡ timeout_refusal (found_of found) place clauses len behind }
 {

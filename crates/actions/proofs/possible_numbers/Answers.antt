@@ -7,27 +7,6 @@ use Rattle.actions.specs.Numbers.{encode}
 use Rattle.actions.proofs.AllSteps.{filled_more, filled_all}
 use Rattle.actions.proofs.possible_numbers.Goals as goal
 
-pub loop-k-init : goal.loop-k-init
-loop-k-init c = (omega arith, refl, λ j h. absurd (omega (arith, h)))
-
-pub overflow_cast-k : goal.overflow_cast-k
-overflow_cast-k c = search (rules, c.loop-k-test.true)
-
-pub possible-s-requires : goal.possible-s-requires
-possible-s-requires c = let t = c.loop-k-test.true in omega (arith, t)
-
-pub offset_bounds-numbers-k : goal.offset_bounds-numbers-k
-offset_bounds-numbers-k c = search (rules, c.loop-k-test.true)
-
-pub bounds-numbers-k : goal.bounds-numbers-k
-bounds-numbers-k c = search (rules, c.loop-k-test.true)
-
-pub overflow_add-k : goal.overflow_add-k
-overflow_add-k c = search (rules, c.loop-k-test.true)
-
-pub loop-k-smaller : goal.loop-k-smaller
-loop-k-smaller c = let t = c.loop-k-test.true in omega (arith, t)
-
 pub loop-k-preserved : goal.loop-k-preserved
 loop-k-preserved c =
     let its-loop = c.loop-k in

@@ -3,8 +3,5 @@ use mathlib.Core.Path.{sym, ◌∙◌}
 use Rattle.consult.proofs.Recvs.{told_31}
 use Rattle.consult.proofs.consultation.Goals as goal
 
-pub of_sound-requires : goal.of_sound-requires
-of_sound-requires c = sym c.sound.ensures ∙ c.if-sound.true
-
 pub returns : goal.returns
 returns c = told_31 _ _ (sym c.sound.ensures ∙ c.if-sound.false)

@@ -9,21 +9,6 @@ use Rattle.decisions.proofs.Sums.{widens, sum_fits, narrows, sum_is, wide_is, be
 use Rattle.node.specs.Values.{least, greatest}
 use Rattle.decisions.proofs.total_of.Goals as goal
 
-pub overflow_cast-z : goal.overflow_cast-z
-overflow_cast-z c =
-    let its-fits = c.ranges in
-    rw (to_z-of_z w32 c.args.x its-fits.x) (widens c.args.x its-fits.x)
-
-pub overflow_cast-z-2 : goal.overflow_cast-z-2
-overflow_cast-z-2 c =
-    let its-fits = c.ranges in
-    rw (to_z-of_z w32 c.args.y its-fits.y) (widens c.args.y its-fits.y)
-
-pub overflow_add-z : goal.overflow_add-z
-overflow_add-z c =
-    let its-fits = c.ranges in
-    rw (wide_is c.args.x its-fits.x, wide_is c.args.y its-fits.y) (sum_fits c.args.x c.args.y its-fits.x its-fits.y)
-
 pub returns-then-z-ltminus2147483648 : goal.returns-then-z-ltminus2147483648
 returns-then-z-ltminus2147483648 c =
     let its-fits = c.ranges in
@@ -35,13 +20,6 @@ returns-then-z-gt2147483647 c =
     let its-fits = c.ranges in
     let its-if2 = c.if-z-gt2147483647 in
     let e = sum_is c.args.x c.args.y its-fits.x its-fits.y in rw (above_fits (c.args.x +ℤ c.args.y) (rw e at its-if2.true))
-
-pub overflow_cast-w : goal.overflow_cast-w
-overflow_cast-w c =
-    let its-fits = c.ranges in
-    let its-if1 = c.if-z-ltminus2147483648 in
-    let its-if2 = c.if-z-gt2147483647 in
-    let e = sum_is c.args.x c.args.y its-fits.x its-fits.y in rw e (narrows (c.args.x +ℤ c.args.y) (rw e at its-if1.false) (rw e at its-if2.false))
 
 pub returns : goal.returns
 returns c =

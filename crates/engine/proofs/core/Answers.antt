@@ -45,7 +45,11 @@ use Rattle.turns.proofs.Turns.{place_at, clauses_of, behind_op, P, O, C, X, W, S
 use Rattle.turns.proofs.Turns.{told_as_it_is, noted_more, noted_over, kinds_here, message_at, left_aside, missed, passed, search_hit, search_over, run_searched, timeout_searched, unsought}
 use Rattle.turns.proofs.Turns.{Verdict, Committed, received, made, stored_mail, stored_flight, stored_cells, sent_at, stored_run, stored_birth, stored_arrival}
 use Rattle.engine.proofs.core.Goals as goal
-use Rattle.engine.proofs.core.Goals.{After-clauses_end-end, After-next-1, After-up_to-count, After-widened-kinds, In-loop-f, In-messages, Joined-e, Joined-e-2, Joined-e-3, Joined-e-4, Joined-e-5, Left-messages, Then-refusal-eq0, else-e, else-e-2, else-e-3, else-e-4, else-e-5, else-messages-test, else-takes, then-e+else-loop-d-test+else-s+else-refusal-eq0, then-e+else-loop-d-test+then-s, then-e-2, then-e-3, then-e-4, then-e-5, then-messages-test+then-takes+then-loop-c-test+then-fits, then-takes+else-loop-c-test}
+use Rattle.engine.proofs.core.Goals.{After-clauses_end-end, After-next-1, After-up_to-count, After-widened-kinds, In-loop-f, In-messages}
+use Rattle.engine.proofs.core.Goals.{Joined-e, Joined-e-2, Joined-e-3, Joined-e-4, Joined-e-5, Left-messages, Then-refusal-eq0}
+use Rattle.engine.proofs.core.Goals.{else-e, else-e-2, else-e-3, else-e-4, else-e-5, else-messages-test, else-takes}
+use Rattle.engine.proofs.core.Goals.{then-e+else-loop-d-test+else-s+else-refusal-eq0, then-e+else-loop-d-test+then-s, then-e-2, then-e-3, then-e-4, then-e-5}
+use Rattle.engine.proofs.core.Goals.{then-messages-test+then-takes+then-loop-c-test+then-fits, then-takes+else-loop-c-test}
 
 -- an index fits its type
 small : {x : ℕ} → x < 65536 → Fits w64 x
@@ -359,16 +363,19 @@ module _ (c : Sought) where
 abbrev Paired : Type 0
 Paired = Joined-e-2
 
-paired : (c : Paired) → c.if-e-2.refusal ≡ pair_told (N (goal.at.Joined-e-2 c).After-next-1) (N-sound (goal.at.Joined-e-2 c).After-next-1) (T (goal.at.Joined-e-2 c).After-next-1) (T-means (goal.at.Joined-e-2 c).After-next-1)
+paired : (c : Paired) → c.if-e-2.refusal ≡ pair_told (N (goal.at.Joined-e-2 c).After-next-1) (N-sound (goal.at.Joined-e-2 c).After-next-1)
+    (T (goal.at.Joined-e-2 c).After-next-1) (T-means (goal.at.Joined-e-2 c).After-next-1)
     (E (goal.at.Joined-e-2 c).After-next-1)
     (E-says (goal.at.Joined-e-2 c).After-next-1) c.if-e.refusal
 paired c =
     let r = c.if-e.refusal in
     let n = N (goal.at.Joined-e-2 c).After-next-1 in
-    let told = pair_refusal r (get_or n.counts (Y n (N-sound (goal.at.Joined-e-2 c).After-next-1) (T (goal.at.Joined-e-2 c).After-next-1) (T-means (goal.at.Joined-e-2 c).After-next-1) (E (goal.at.Joined-e-2 c).After-next-1)
+    let told = pair_refusal r (get_or n.counts (Y n (N-sound (goal.at.Joined-e-2 c).After-next-1) (T (goal.at.Joined-e-2 c).After-next-1)
+    (T-means (goal.at.Joined-e-2 c).After-next-1) (E (goal.at.Joined-e-2 c).After-next-1)
     (E-says (goal.at.Joined-e-2 c).After-next-1)) 0) in
     elim c.if-e-2.branch [
-      | then-e-2 w ↦ w.refusal-is ∙ w.pair_refusal-refusal.ensures ∙ ap (λ (y : ℕ). pair_refusal r (get_or n.counts y 0)) w.row_index-row.ensures.value ∙ sym (ap (λ (b : Bool). cond b told r) w.if-e-2.true)
+      | then-e-2 w ↦ w.refusal-is ∙ w.pair_refusal-refusal.ensures ∙ ap (λ (y : ℕ). pair_refusal r (get_or n.counts y 0)) w.row_index-row.ensures.value
+          ∙ sym (ap (λ (b : Bool). cond b told r) w.if-e-2.true)
       | else-e-2 w ↦ w.refusal-is ∙ sym (ap (λ (b : Bool). cond b told r) w.if-e-2.false)
     ]
 
@@ -477,7 +484,10 @@ module _ (c : Stored) where
             let counts : set n.counts w.row_index-row-then-e-5.result w.risen-then-e-5.result ≡ flight.counts = (λ i. set n.counts (row i) (more i))
             ∙ sym (ap (λ (b : Bool). set n.counts y (cond b (min (sent + 1) 255) sent)) yes) in
             w.node-is
-            ∙ ap (λ (q : Node). made q q.processes (mail_shelf q) (record { cells = set q.cells w.cell_index-y.result signal; counts = set q.counts w.row_index-row-then-e-5.result w.risen-then-e-5.result })) before
+            ∙ ap (λ (q : Node). made q q.processes (mail_shelf q) (record {
+              cells = set q.cells w.cell_index-y.result signal;
+              counts = set q.counts w.row_index-row-then-e-5.result w.risen-then-e-5.result;
+            })) before
             ∙ (λ i. made n (processes12 (goal.at.Joined-e-5 c).Joined-e-4) (mail12 (goal.at.Joined-e-5 c).Joined-e-4) (record { cells = cells i; counts = counts i }))
         | else-e-5 w ↦ let no = w.if-e-5.false in
             let cells : n.cells ≡ flight.cells = sym (ap (λ (b : Bool). set n.cells at (cond b signal old)) no ∙ set-get_or n.cells at no_signal) in
@@ -499,73 +509,6 @@ next_cell c =
     let b = arrival_bound (goal.at.In-loop-f c).After-next-1 in
     omega (arith, h, b)
 
-pub loop-i-init : goal.loop-i-init
-loop-i-init c = (omega arith, c.requires, going c.args.looks c.args.n c.args.numbers.now)
-
-pub bounds-numbers-t : goal.bounds-numbers-t
-bounds-numbers-t c = c.loop-i-test.true
-
-pub offset_bounds-node-k : goal.offset_bounds-node-k
-offset_bounds-node-k c = small (let h = c.decode-s.ensures.at_bound.0 in omega (arith, h))
-
-pub bounds-node-k : goal.bounds-node-k
-bounds-node-k c = c.decode-s.ensures.at_bound.0
-
-pub offset_bounds-node-x : goal.offset_bounds-node-x
-offset_bounds-node-x c = small (let h = c.op_index-x.ensures.upper_bound in omega (arith, h))
-
-pub bounds-node-x : goal.bounds-node-x
-bounds-node-x c = c.op_index-x.ensures.upper_bound
-
-pub overflow_mul-oldest : goal.overflow_mul-oldest
-overflow_mul-oldest c = small (let h = c.decode-s.ensures.at_bound.1 in omega (arith, h))
-
-pub offset_bounds-node-r : goal.offset_bounds-node-r
-offset_bounds-node-r c = small (let h = c.decode-s.ensures.at_bound.1 in omega (arith, h))
-
-pub bounds-node-r : goal.bounds-node-r
-bounds-node-r c = let h = c.decode-s.ensures.at_bound.1 in omega (arith, h)
-
-pub bounds-node-k-in-loop-i : goal.bounds-node-k-in-loop-i
-bounds-node-k-in-loop-i c = c.decode-s.ensures.at_bound.0
-
-pub bounds-node-r-in-loop-i : goal.bounds-node-r-in-loop-i
-bounds-node-r-in-loop-i c = c.decode-s.ensures.at_bound.1
-
-pub bounds-node-w : goal.bounds-node-w
-bounds-node-w c = c.behaviour_index-w.ensures.upper_bound
-
-pub overflow_mul-first : goal.overflow_mul-first
-overflow_mul-first c = small (let h = at_bound (goal.at.overflow_mul-first c).After-next-1 in omega (arith, h))
-
-pub overflow_add-top : goal.overflow_add-top
-overflow_add-top c = small (let h = at_bound (goal.at.overflow_add-top c).After-next-1 in let e = c.up_to-count.ensures in omega (arith, h, e))
-
-pub clauses_end-end-requires : goal.clauses_end-end-requires
-clauses_end-end-requires c = x_bound (goal.at.clauses_end-end-requires c).After-next-1
-
-pub overflow_add-d : goal.overflow_add-d
-overflow_add-d c = small (let h = x_bound (goal.at.overflow_add-d c).After-next-1 in omega (arith, h))
-
-pub loop-d-init : goal.loop-d-init
-loop-d-init c =
-    let turn = (goal.at.loop-d-init c).After-next-1 in
-    let s : x turn + 1 ≡ behind_recv turn = ap (λ (k : ℕ). k + 1) (x_is turn) in
-    let e : x turn + 1 - behind_recv turn ≡ 0 = omega (arith, s) in
-    (omega (arith, s), rw (c.none-noted.ensures, e))
-
-pub offset_bounds-node-d : goal.offset_bounds-node-d
-offset_bounds-node-d c = small (let h = c.loop-d-test.true in let e = end_bound (goal.at.offset_bounds-node-d c).After-clauses_end-end in omega (arith, h, e))
-
-pub bounds-node-d : goal.bounds-node-d
-bounds-node-d c = let h = c.loop-d-test.true in let e = end_bound (goal.at.bounds-node-d c).After-clauses_end-end in omega (arith, h, e)
-
-pub overflow_add-d-in-loop-d : goal.overflow_add-d-in-loop-d
-overflow_add-d-in-loop-d c = small (let h = c.loop-d-test.true in let e = end_bound (goal.at.overflow_add-d-in-loop-d c).After-clauses_end-end in omega (arith, h, e))
-
-pub loop-d-smaller : goal.loop-d-smaller
-loop-d-smaller c = let h = c.loop-d-test.true in omega (arith, h)
-
 pub loop-d-preserved : goal.loop-d-preserved
 loop-d-preserved c =
     let turn = (goal.at.loop-d-preserved c).After-next-1 in
@@ -576,43 +519,12 @@ loop-d-preserved c =
     c.loop-d.noted c.loop-d.d low high v.1 in
     (omega (arith, low), rw c.noted-noted.ensures next)
 
-pub messages-init : goal.messages-init
-messages-init c =
-    let turn = (goal.at.messages-init c).After-next-1 in
-    let e : 16 * (T turn).at - 16 * (T turn).at ≡ 0 = omega arith in
-    (omega arith, omega arith, ap so_far (sym e), rw e)
-
-pub offset_bounds-node-slot : goal.offset_bounds-node-slot
-offset_bounds-node-slot c = small (let h = c.messages-test.true in let b = top_bound (goal.at.offset_bounds-node-slot c).After-up_to-count in omega (arith, h, b))
-
-pub bounds-node-slot : goal.bounds-node-slot
-bounds-node-slot c = let h = c.messages-test.true in let b = top_bound (goal.at.bounds-node-slot c).After-up_to-count in omega (arith, h, b)
-
-pub overflow_add-c : goal.overflow_add-c
-overflow_add-c c = small (let h = x_bound (goal.at.overflow_add-c c).After-next-1 in omega (arith, h))
-
 pub loop-c-init : goal.loop-c-init
 loop-c-init c =
     let turn = (goal.at.loop-c-init c).After-next-1 in
     let s : x turn + 1 ≡ behind_recv turn = ap (λ (k : ℕ). k + 1) (x_is turn) in
     let e : x turn + 1 - behind_recv turn ≡ 0 = omega (arith, s) in
     (omega (arith, s), refl, rw e (at_message (goal.at.loop-c-init c).In-messages))
-
-pub offset_bounds-node-c : goal.offset_bounds-node-c
-offset_bounds-node-c c = small (let h = c.loop-c-test.true in let e = end_bound (goal.at.offset_bounds-node-c c).After-clauses_end-end in omega (arith, h, e))
-
-pub bounds-node-c : goal.bounds-node-c
-bounds-node-c c = let h = c.loop-c-test.true in let e = end_bound (goal.at.bounds-node-c c).After-clauses_end-end in omega
-    (arith, h, e)
-
-pub overflow_sub-found : goal.overflow_sub-found
-overflow_sub-found c = c.messages.invariant.0
-
-pub overflow_add-c-in-loop-c : goal.overflow_add-c-in-loop-c
-overflow_add-c-in-loop-c c = small (let h = c.loop-c-test.true in let e = end_bound (goal.at.overflow_add-c-in-loop-c c).After-clauses_end-end in omega (arith, h, e))
-
-pub loop-c-smaller : goal.loop-c-smaller
-loop-c-smaller c = let h = c.loop-c-test.true in omega (arith, h)
 
 pub loop-c-preserved : goal.loop-c-preserved
 loop-c-preserved c =
@@ -628,13 +540,6 @@ loop-c-preserved c =
           c.loop-c.c c.messages.invariant.0
           (message_below (goal.at.loop-c-preserved c).In-messages) low high f v.2,
     )
-
-pub overflow_add-slot : goal.overflow_add-slot
-overflow_add-slot c = small (let h = c.messages-test.true in let b = top_bound (goal.at.overflow_add-slot c).After-up_to-count in omega
-    (arith, h, b))
-
-pub messages-smaller : goal.messages-smaller
-messages-smaller c = let h = c.messages-test.true in omega (arith, h)
 
 pub messages-preserved : goal.messages-preserved
 messages-preserved c =
@@ -659,59 +564,21 @@ messages-preserved c =
       ],
     )
 
-pub offset_bounds-node-y : goal.offset_bounds-node-y
-offset_bounds-node-y c = small (let h = c.at_most-y.ensures in omega (arith, h))
-
-pub bounds-node-y : goal.bounds-node-y
-bounds-node-y c = let h = c.at_most-y.ensures in omega (arith, h)
-
-pub bounds-node-w-then-s : goal.bounds-node-w-then-s
-bounds-node-w-then-s c =
-    c.behaviour_index-w.ensures.upper_bound
-
 pub returns-then-looks : goal.returns-then-looks
 returns-then-looks c =
     let turn = (goal.at.returns-then-looks c).After-next-1 in
-    let q = c.if-looks.true in record { result_value = λ e. absurd (false≢true (sym e ∙ q)); accepted_value = λ _. ap (λ (r : Outcome). r.accepted) c.ended.ensures ∙ look_stop (n₀ turn) (numbers turn) (count turn) (N turn) (N-sound turn) (looked turn q) _ (in_list turn) (takes_one (goal.at.returns-then-looks c).Then-refusal-eq0) }
-
-pub offset_bounds-node-k-then-refusal-eq0 : goal.offset_bounds-node-k-then-refusal-eq0
-offset_bounds-node-k-then-refusal-eq0 c = small (let h = at_bound (goal.at.offset_bounds-node-k-then-refusal-eq0 c).After-next-1 in omega (arith, h))
-
-pub bounds-node-k-then-refusal-eq0 : goal.bounds-node-k-then-refusal-eq0
-bounds-node-k-then-refusal-eq0 c = at_bound (goal.at.bounds-node-k-then-refusal-eq0 c).After-next-1
-
-pub bounds-node-k-then-refusal-eq0-2 : goal.bounds-node-k-then-refusal-eq0-2
-bounds-node-k-then-refusal-eq0-2 c = at_bound (goal.at.bounds-node-k-then-refusal-eq0-2 c).After-next-1
+    let q = c.if-looks.true in
+    record {
+      result_value = λ e. absurd (false≢true (sym e ∙ q));
+      accepted_value = λ _. ap (λ (r : Outcome). r.accepted) c.ended.ensures
+          ∙ look_stop (n₀ turn) (numbers turn) (count turn) (N turn) (N-sound turn) (looked turn q) _ (in_list turn) (takes_one (goal.at.returns-then-looks c).Then-refusal-eq0);
+    }
 
 pub overflow_add-m : goal.overflow_add-m
 overflow_add-m c = small (let h = fit_bound (goal.at.overflow_add-m c).Left-messages c.fit_index.result c.fit_index.ensures in omega (arith, h))
 
 pub loop-m-init : goal.loop-m-init
 loop-m-init c = (fit_bound (goal.at.loop-m-init c).Left-messages c.fit_index.result c.fit_index.ensures, refl, moved_start _ _ _)
-
-pub overflow_add-m-in-loop-m : goal.overflow_add-m-in-loop-m
-overflow_add-m-in-loop-m c = small (let h = c.loop-m.invariant.0 in omega (arith, h))
-
-pub overflow_add-later : goal.overflow_add-later
-overflow_add-later c = small (let h = c.loop-m.invariant.0 in omega (arith, h))
-
-pub offset_bounds-node-m : goal.offset_bounds-node-m
-offset_bounds-node-m c = small (let h = c.loop-m-test.true in let b = top_bound (goal.at.offset_bounds-node-m c).After-up_to-count in omega (arith, h, b))
-
-pub bounds-node-m : goal.bounds-node-m
-bounds-node-m c = let h = c.loop-m-test.true in let b = top_bound (goal.at.bounds-node-m c).After-up_to-count in omega (arith, h, b)
-
-pub offset_bounds-node-m-in-loop-m : goal.offset_bounds-node-m-in-loop-m
-offset_bounds-node-m-in-loop-m c = small (let h = c.loop-m.invariant.0 in omega (arith, h))
-
-pub bounds-node-m-in-loop-m : goal.bounds-node-m-in-loop-m
-bounds-node-m-in-loop-m c = let h = c.loop-m-test.true in let b = top_bound (goal.at.bounds-node-m-in-loop-m c).After-up_to-count in omega (arith, h, b)
-
-pub overflow_add-m-in-loop-m-2 : goal.overflow_add-m-in-loop-m-2
-overflow_add-m-in-loop-m-2 c = small (let h = c.loop-m.invariant.0 in omega (arith, h))
-
-pub loop-m-smaller : goal.loop-m-smaller
-loop-m-smaller c = let h = c.loop-m-test.true in omega (arith, h)
 
 pub loop-m-preserved : goal.loop-m-preserved
 loop-m-preserved c =
@@ -727,10 +594,6 @@ loop-m-preserved c =
     let q = c.loop-m.node in
     let slots = set q.slots c.loop-m.m (get_or q.slots (c.loop-m.m + 1) no_message) in
     (omega (arith, h, b), ap (λ (k : Node). with_slots k slots) v.1, moved_more no_message v.2 h room)
-
-pub loop-i-smaller-then-refusal-eq0 : goal.loop-i-smaller-then-refusal-eq0
-loop-i-smaller-then-refusal-eq0 c = let h = in_list (goal.at.loop-i-smaller-then-refusal-eq0 c).After-next-1 in omega
-    (arith, h)
 
 pub loop-i-preserved-then-refusal-eq0 : goal.loop-i-preserved-then-refusal-eq0
 loop-i-preserved-then-refusal-eq0 c =
@@ -751,25 +614,19 @@ loop-i-preserved-then-refusal-eq0 c =
     (flight_shelf n)))
     (takes_one (goal.at.loop-i-preserved-then-refusal-eq0 c).Then-refusal-eq0)
 
-pub bounds-node-row : goal.bounds-node-row
-bounds-node-row c = c.row_index-row.ensures.upper_bound
-
-pub offset_bounds-node-child : goal.offset_bounds-node-child
-offset_bounds-node-child c = small (let h = c.process_index-child.ensures.upper_bound in omega (arith, h))
-
-pub bounds-node-child : goal.bounds-node-child
-bounds-node-child c = c.process_index-child.ensures.upper_bound
-
-pub loop-i-smaller-then-looks-2 : goal.loop-i-smaller-then-looks-2
-loop-i-smaller-then-looks-2 c = let h = in_list (goal.at.loop-i-smaller-then-looks-2 c).After-next-1 in omega (arith, h)
-
 pub loop-i-preserved-then-looks-2 : goal.loop-i-preserved-then-looks-2
-loop-i-preserved-then-looks-2 c = looks_on (goal.at.loop-i-preserved-then-looks-2 c).After-next-1 c.if-looks-2.true _ (refuses (goal.at.loop-i-preserved-then-looks-2 c).Joined-e-3 c.if-refusal-ne0.true)
+loop-i-preserved-then-looks-2 c = looks_on (goal.at.loop-i-preserved-then-looks-2 c).After-next-1 c.if-looks-2.true _
+    (refuses (goal.at.loop-i-preserved-then-looks-2 c).Joined-e-3 c.if-refusal-ne0.true)
 
 pub returns-then-refusal-ne0 : goal.returns-then-refusal-ne0
 returns-then-refusal-ne0 c =
     let turn = (goal.at.returns-then-refusal-ne0 c).After-next-1 in
-    let q = c.if-looks-2.false in record { result_value = λ _. c.ended-then-refusal-ne0.ensures ∙ stop (numbers turn) (count turn) (N turn) _ (in_list turn) (N-sound turn) (played_on turn q) (refuses (goal.at.returns-then-refusal-ne0 c).Joined-e-3 c.if-refusal-ne0.true); accepted_value = λ e. absurd (false≢true (sym q ∙ e)) }
+    let q = c.if-looks-2.false in
+    record {
+      result_value = λ _. c.ended-then-refusal-ne0.ensures
+          ∙ stop (numbers turn) (count turn) (N turn) _ (in_list turn) (N-sound turn) (played_on turn q) (refuses (goal.at.returns-then-refusal-ne0 c).Joined-e-3 c.if-refusal-ne0.true);
+      accepted_value = λ e. absurd (false≢true (sym q ∙ e));
+    }
 
 pub returns-then-looks-3 : goal.returns-then-looks-3
 returns-then-looks-3 c =
@@ -780,51 +637,6 @@ returns-then-looks-3 c =
           (commits (goal.at.returns-then-looks-3 c).Joined-e-3 c.if-refusal-ne0.false).answer;
     }
 
-pub offset_bounds-node-k-in-loop-i : goal.offset_bounds-node-k-in-loop-i
-offset_bounds-node-k-in-loop-i c = small (let h = at_bound (goal.at.offset_bounds-node-k-in-loop-i c).After-next-1 in omega (arith, h))
-
-pub bounds-node-k-in-loop-i-2 : goal.bounds-node-k-in-loop-i-2
-bounds-node-k-in-loop-i-2 c = at_bound (goal.at.bounds-node-k-in-loop-i-2 c).After-next-1
-
-pub overflow_add-join : goal.overflow_add-join
-overflow_add-join c = small (let h = at_bound (goal.at.overflow_add-join c).After-next-1 in let e = c.up_to.ensures in omega (arith, h, e))
-
-pub offset_bounds-node-join : goal.offset_bounds-node-join
-offset_bounds-node-join c = small (let h = at_bound (goal.at.offset_bounds-node-join c).After-next-1 in let e = c.up_to.ensures in omega (arith, h, e))
-
-pub bounds-node-join : goal.bounds-node-join
-bounds-node-join c = let h = at_bound (goal.at.bounds-node-join c).After-next-1 in let e = c.up_to.ensures in omega (arith, h, e)
-
-pub bounds-node-k-then-e-4 : goal.bounds-node-k-then-e-4
-bounds-node-k-then-e-4 c = at_bound (goal.at.bounds-node-k-then-e-4 c).After-next-1
-
-pub bounds-node-row-then-e-5 : goal.bounds-node-row-then-e-5
-bounds-node-row-then-e-5 c = c.row_index-row-then-e-5.ensures.upper_bound
-
-pub cell_index-y-requires : goal.cell_index-y-requires
-cell_index-y-requires c = c.row_index-row-then-e-5.ensures.upper_bound
-
-pub offset_bounds-node-y-then-e-5 : goal.offset_bounds-node-y-then-e-5
-offset_bounds-node-y-then-e-5 c = small (let h = c.cell_index-y.ensures.upper_bound in omega (arith, h))
-
-pub bounds-node-y-then-e-5 : goal.bounds-node-y-then-e-5
-bounds-node-y-then-e-5 c = c.cell_index-y.ensures.upper_bound
-
-pub bounds-node-row-then-e-5-2 : goal.bounds-node-row-then-e-5-2
-bounds-node-row-then-e-5-2 c = c.row_index-row-then-e-5.ensures.upper_bound
-
-pub offset_bounds-node-child-then-e-6 : goal.offset_bounds-node-child-then-e-6
-offset_bounds-node-child-then-e-6 c = small (let h = c.process_index-child-then-e-6.ensures.upper_bound in omega (arith, h))
-
-pub bounds-node-child-then-e-6 : goal.bounds-node-child-then-e-6
-bounds-node-child-then-e-6 c = c.process_index-child-then-e-6.ensures.upper_bound
-
-pub bounds-node-child-then-e-6-2 : goal.bounds-node-child-then-e-6-2
-bounds-node-child-then-e-6-2 c = c.process_index-child-then-e-6.ensures.upper_bound
-
-pub loop-i-smaller-then-e-6 : goal.loop-i-smaller-then-e-6
-loop-i-smaller-then-e-6 c = let h = in_list (goal.at.loop-i-smaller-then-e-6 c).After-next-1 in omega (arith, h)
-
 pub loop-i-preserved-then-e-6 : goal.loop-i-preserved-then-e-6
 loop-i-preserved-then-e-6 c =
     let turn = (goal.at.loop-i-preserved-then-e-6 c).After-next-1 in
@@ -833,36 +645,6 @@ loop-i-preserved-then-e-6 c =
     ((λ i. birth_in (stored_is (goal.at.loop-i-preserved-then-e-6 c).Joined-e-5 i) (c.process_index-child-then-e-6.ensures.value i) (c.fresh.ensures i))
     ∙ stored_birth (N turn) (N-sound turn) (T turn) (T-means turn) (E turn) (E-says turn) w.cleared w c.if-e-6.true)
     w.answer
-
-pub overflow_mul-f : goal.overflow_mul-f
-overflow_mul-f c = small (let h = arrival_bound (goal.at.overflow_mul-f c).After-next-1 in omega (arith, h))
-
-pub overflow_add-last : goal.overflow_add-last
-overflow_add-last c = small (let h = arrival_bound (goal.at.overflow_add-last c).After-next-1 in omega (arith, h))
-
-pub loop-f-init : goal.loop-f-init
-loop-f-init c = (refl, moved_start _ _ _)
-
-pub overflow_add-cell : goal.overflow_add-cell
-overflow_add-cell c = small (let h = next_cell (goal.at.overflow_add-cell c).In-loop-f in omega (arith, h))
-
-pub offset_bounds-node-f : goal.offset_bounds-node-f
-offset_bounds-node-f c = small (let h = next_cell (goal.at.offset_bounds-node-f c).In-loop-f in omega (arith, h))
-
-pub bounds-node-f : goal.bounds-node-f
-bounds-node-f c = next_cell (goal.at.bounds-node-f c).In-loop-f
-
-pub offset_bounds-node-f-in-loop-f : goal.offset_bounds-node-f-in-loop-f
-offset_bounds-node-f-in-loop-f c = small (let h = next_cell (goal.at.offset_bounds-node-f-in-loop-f c).In-loop-f in omega (arith, h))
-
-pub bounds-node-f-in-loop-f : goal.bounds-node-f-in-loop-f
-bounds-node-f-in-loop-f c = let h = next_cell (goal.at.bounds-node-f-in-loop-f c).In-loop-f in omega (arith, h)
-
-pub overflow_add-f : goal.overflow_add-f
-overflow_add-f c = small (let h = next_cell (goal.at.overflow_add-f c).In-loop-f in omega (arith, h))
-
-pub loop-f-smaller : goal.loop-f-smaller
-loop-f-smaller c = let h = c.loop-f-test.true in omega (arith, h)
 
 pub loop-f-preserved : goal.loop-f-preserved
 loop-f-preserved c =
@@ -880,21 +662,6 @@ loop-f-preserved c =
       moved_more no_signal v.1 (omega (arith, h))
           room,
     )
-
-pub offset_bounds-node-last : goal.offset_bounds-node-last
-offset_bounds-node-last c = small (let h = arrival_bound (goal.at.offset_bounds-node-last c).After-next-1 in omega (arith, h))
-
-pub bounds-node-last : goal.bounds-node-last
-bounds-node-last c = let h = arrival_bound (goal.at.bounds-node-last c).After-next-1 in omega (arith, h)
-
-pub bounds-node-r-then-s-2 : goal.bounds-node-r-then-s-2
-bounds-node-r-then-s-2 c = arrival_bound (goal.at.bounds-node-r-then-s-2 c).After-next-1
-
-pub bounds-node-r-then-s-2-2 : goal.bounds-node-r-then-s-2-2
-bounds-node-r-then-s-2-2 c = arrival_bound (goal.at.bounds-node-r-then-s-2-2 c).After-next-1
-
-pub loop-i-smaller-then-s-2 : goal.loop-i-smaller-then-s-2
-loop-i-smaller-then-s-2 c = let h = in_list (goal.at.loop-i-smaller-then-s-2 c).After-next-1 in omega (arith, h)
 
 pub loop-i-preserved-then-s-2 : goal.loop-i-preserved-then-s-2
 loop-i-preserved-then-s-2 c =
@@ -918,9 +685,6 @@ loop-i-preserved-then-s-2 c =
     ∙ stored_arrival (N turn) (N-sound turn) (T turn) (T-means turn) (E turn) (E-says turn) w.cleared w (arrival_bound turn) c.if-s-2.true
     c.if-e-6.false)
     w.answer
-
-pub loop-i-smaller : goal.loop-i-smaller
-loop-i-smaller c = let h = in_list (goal.at.loop-i-smaller c).After-next-1 in omega (arith, h)
 
 pub loop-i-preserved : goal.loop-i-preserved
 loop-i-preserved c =

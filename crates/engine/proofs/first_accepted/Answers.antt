@@ -5,15 +5,6 @@ use borrow.Author.Rules.{rules}
 use Rattle.engine.proofs.Calls.{offers_it, offers_none}
 use Rattle.engine.proofs.first_accepted.Goals as goal
 
-pub core-r-requires : goal.core-r-requires
-core-r-requires c = c.requires
-
-pub offset_bounds-numbers-k : goal.offset_bounds-numbers-k
-offset_bounds-numbers-k c = search (rules, c.if-k-lt288.true)
-
-pub bounds-numbers-k : goal.bounds-numbers-k
-bounds-numbers-k c = search (rules, c.if-k-lt288.true)
-
 pub returns-then-k-lt288 : goal.returns-then-k-lt288
 returns-then-k-lt288 c =
     let numbers = c.possible_numbers-numbers in

@@ -14,12 +14,6 @@ returns-then-numbers-gt-LONGEST c =
     let its-if2 = c.if-numbers-gt-LONGEST in
     its-ended.ensures ∙ play_32 c.args.n (map action_of c.args.numbers.now) (sym its-sound.ensures ∙ its-if1.true) (rw (length-map c.args.numbers.now action_of) its-if2.true)
 
-pub core-requires : goal.core-requires
-core-requires c =
-    let its-sound = c.sound in
-    let its-if1 = c.if-sound in
-    (sym its-sound.ensures ∙ its-if1.true)
-
 pub returns-then-sound : goal.returns-then-sound
 returns-then-sound c =
     let its-core = c.core in

@@ -4,12 +4,6 @@ use Rattle.rules.specs.Steps.{meaning}
 use Rattle.engine.proofs.Calls.{step_31, step_played}
 use Rattle.engine.proofs.step.Goals as goal
 
-pub core-r-requires : goal.core-r-requires
-core-r-requires c =
-    let its-sound = c.sound in
-    let its-if1 = c.if-sound in
-    sym its-sound.ensures ∙ its-if1.true
-
 pub returns-then-sound : goal.returns-then-sound
 returns-then-sound c =
     let its-sound = c.sound in

@@ -3,12 +3,6 @@ use mathlib.Core.Path.{sym, ◌∙◌}
 use Rattle.engine.proofs.Calls.{offer_sound, offer_31}
 use Rattle.engine.proofs.suggest.Goals as goal
 
-pub first_accepted-requires : goal.first_accepted-requires
-first_accepted-requires c =
-    let its-sound = c.sound in
-    let its-if1 = c.if-sound in
-    sym its-sound.ensures ∙ its-if1.true
-
 pub returns-then-sound : goal.returns-then-sound
 returns-then-sound c = offer_sound _ (sym c.sound.ensures ∙ c.if-sound.true) c.first_accepted.ensures
 

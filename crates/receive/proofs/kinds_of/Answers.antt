@@ -35,11 +35,6 @@ module _ (ops : List Op) (size : length ops ≡ 256) (low end : ℕ) (h : low �
 sized : (c : Start) → length c.args.ops ≡ 256
 sized c = omega (arith, c.well_formed.0.1.0.1)
 
-pub loop-c-init : goal.loop-c-init
-loop-c-init c =
-    let none : c.args.low - c.args.low ≡ 0 = omega arith in
-    (omega arith, c.requires.low_le_end, sym (ap₂ noted_all c.none-kinds.ensures (ap (λ (k : ℕ). drop k (take (c.args.end - c.args.low) (drop c.args.low c.args.ops))) none)))
-
 pub loop-c-preserved : goal.loop-c-preserved
 loop-c-preserved c =
     let l = c.loop-c in
@@ -51,4 +46,5 @@ pub returns : goal.returns
 returns c =
     let l = c.loop-c in
     let above = c.loop-c-test.false in
-    c.widened.ensures ∙ ap widened (sym (noted_over c.args.ops (sized (goal.at.returns c).Start) c.args.low c.args.end c.requires.low_le_end c.requires.end_bound l.kinds l.c l.invariant.0 l.invariant.2 above))
+    c.widened.ensures ∙ ap widened (sym (noted_over c.args.ops (sized (goal.at.returns c).Start) c.args.low c.args.end c.requires.low_le_end c.requires.end_bound
+    l.kinds l.c l.invariant.0 l.invariant.2 above))

@@ -183,22 +183,6 @@ module _ (c : Made) where
   end_bound : End ≤ 256
   end_bound = let e = c.within-end.ensures in omega (arith, e)
 
-pub kinds_of-kinds-requires : goal.kinds_of-kinds-requires
-kinds_of-kinds-requires c = let e = c.within-end.ensures in let l = c.within-low.ensures in record { low_le_end = omega (arith, e, l); end_bound = omega (arith, e) }
-
-pub messages-init : goal.messages-init
-messages-init c =
-    let none : From (goal.at.messages-init c).After-kinds_of-kinds - From (goal.at.messages-init c).After-kinds_of-kinds ≡ 0 = omega arith in
-    let e = c.within-top.ensures in
-    let f = c.within-from.ensures in
-    (omega arith, omega (arith, e, f), ap so_far (sym none), (rw none, rw (none, zero-add)))
-
-pub offset_bounds-slots-slot : goal.offset_bounds-slots-slot
-offset_bounds-slots-slot c = small (let h = c.messages-test.true in let b = top_bound (goal.at.offset_bounds-slots-slot c).After-kinds_of-kinds in omega (arith, h, b))
-
-pub bounds-slots-slot : goal.bounds-slots-slot
-bounds-slots-slot c = let h = c.messages-test.true in let b = top_bound (goal.at.bounds-slots-slot c).After-kinds_of-kinds in omega (arith, h, b)
-
 pub loop-c-init : goal.loop-c-init
 loop-c-init c =
     let l = c.messages in
@@ -208,24 +192,6 @@ loop-c-init c =
     let told = sym c.takes.ensures ∙ c.if-takes.true in
     (omega arith, omega (arith, from, to), refl, message_at (ranges (goal.at.loop-c-init c).After-kinds_of-kinds) l.slot l.consulted l.invariant.0 l.invariant.3 below told _ (omega arith))
 
-pub offset_bounds-ops-c : goal.offset_bounds-ops-c
-offset_bounds-ops-c c = small (let h = c.loop-c-test.true in let b = end_bound (goal.at.offset_bounds-ops-c c).After-kinds_of-kinds in omega (arith, h, b))
-
-pub bounds-ops-c : goal.bounds-ops-c
-bounds-ops-c c = let h = c.loop-c-test.true in let b = end_bound (goal.at.bounds-ops-c c).After-kinds_of-kinds in omega (arith, h, b)
-
-pub overflow_sub-consulted : goal.overflow_sub-consulted
-overflow_sub-consulted c =
-    let low = c.loop-c.invariant.0 in
-    let below = c.loop-c-test.true in
-    omega (arith, low, below)
-
-pub overflow_add-consulted : goal.overflow_add-consulted
-overflow_add-consulted c =
-    let b = end_bound (goal.at.overflow_add-consulted c).After-kinds_of-kinds in
-    let below = c.loop-c-test.true in
-    small (omega (arith, b, below))
-
 pub overflow_add-consulted-then-fits : goal.overflow_add-consulted-then-fits
 overflow_add-consulted-then-fits c =
     let b = end_bound (goal.at.overflow_add-consulted-then-fits c).After-kinds_of-kinds in
@@ -234,31 +200,17 @@ overflow_add-consulted-then-fits c =
     let counted = c.loop-c.invariant.3.1 in
     small (omega (arith, b, below, all, counted))
 
-pub overflow_sub-found : goal.overflow_sub-found
-overflow_sub-found c = c.messages.invariant.0
-
-pub overflow_add-c : goal.overflow_add-c
-overflow_add-c c =
-    let h = c.loop-c-test.true in
-    let b = end_bound (goal.at.overflow_add-c c).After-kinds_of-kinds in
-    small (omega (arith, h, b))
-
-pub loop-c-smaller : goal.loop-c-smaller
-loop-c-smaller c = let h = c.loop-c-test.true in omega (arith, h)
-
 pub loop-c-preserved : goal.loop-c-preserved
 loop-c-preserved c =
     let slot = c.messages.slot in
     let l = c.loop-c in
     let low = l.invariant.0 in
-    let below = c.loop-c-test.true in
-    (omega (arith, low), omega (arith, below), l.invariant.2, missed (ranges (goal.at.loop-c-preserved c).After-kinds_of-kinds) slot l.c l.consulted _ low l.invariant.3 below (sym c.fits.ensures ∙ c.if-fits.false))
-
-pub overflow_sub-consulted-then-takes : goal.overflow_sub-consulted-then-takes
-overflow_sub-consulted-then-takes c =
-    let low = c.loop-c.invariant.0 in
-    let within = c.loop-c.invariant.1 in
-    omega (arith, low, within)
+    let below = c.loop-c-test.true in (
+      omega (arith, low),
+      omega (arith, below),
+      l.invariant.2,
+      missed (ranges (goal.at.loop-c-preserved c).After-kinds_of-kinds) slot l.c l.consulted _ low l.invariant.3 below (sym c.fits.ensures ∙ c.if-fits.false),
+    )
 
 pub overflow_add-consulted-then-takes : goal.overflow_add-consulted-then-takes
 overflow_add-consulted-then-takes c =
@@ -266,15 +218,6 @@ overflow_add-consulted-then-takes c =
     let all = few (ranges (goal.at.overflow_add-consulted-then-takes c).After-kinds_of-kinds) in
     let counted = c.loop-c.invariant.3.1 in
     small (omega (arith, b, all, counted))
-
-pub overflow_add-slot : goal.overflow_add-slot
-overflow_add-slot c =
-    let h = c.messages-test.true in
-    let b = top_bound (goal.at.overflow_add-slot c).After-kinds_of-kinds in
-    small (omega (arith, h, b))
-
-pub messages-smaller : goal.messages-smaller
-messages-smaller c = let h = c.messages-test.true in omega (arith, h)
 
 pub messages-preserved : goal.messages-preserved
 messages-preserved c =

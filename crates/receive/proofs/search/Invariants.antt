@@ -33,7 +33,8 @@ abbrev pub decreases-loop-c : goal.decreases-loop-c
 decreases-loop-c l = l.end - l.c
 
 abbrev pub invariant-messages : goal.invariant-messages
-invariant-messages l = (l.from ≤ l.slot) × (l.slot ≤ l.top) × (found_of l.found ≡ so_far (l.slot - l.from)) × AtMessage (clauses_in l.ops l.at l.clauses) (mail_in l.slots l.first l.count) (l.slot - l.from) l.consulted
+invariant-messages l = (l.from ≤ l.slot) × (l.slot ≤ l.top) × (found_of l.found ≡ so_far (l.slot - l.from))
+    × AtMessage (clauses_in l.ops l.at l.clauses) (mail_in l.slots l.first l.count) (l.slot - l.from) l.consulted
 
 abbrev pub decreases-messages : goal.decreases-messages
 decreases-messages l = l.top - l.slot

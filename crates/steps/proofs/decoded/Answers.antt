@@ -8,9 +8,6 @@ use lib.Seq.{take_all}
 use Rattle.steps.proofs.Laws.{made_more}
 use Rattle.steps.proofs.decoded.Goals as goal
 
-pub loop-i-init : goal.loop-i-init
-loop-i-init c = (search rules, search rules, refl)
-
 pub loop-i-preserved : goal.loop-i-preserved
 loop-i-preserved c =
     let its-step-of = c.step_of in

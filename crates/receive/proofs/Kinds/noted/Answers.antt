@@ -4,11 +4,6 @@ use native.Mathlib.Omega.{arith}
 use Rattle.receive.proofs.KindSets.{value_below, noted_exact, noted_kind_lem, noted_past}
 use Rattle.receive.proofs.Kinds.noted.Goals as goal
 
-pub overflow_shl-result : goal.overflow_shl-result
-overflow_shl-result c =
-    let v = c.args.c.value in
-    omega (arith, value_below v, c.kind.ensures)
-
 pub returns-then-kind-eq-EXACT : goal.returns-then-kind-eq-EXACT
 returns-then-kind-eq-EXACT c =
     let a = c.args in

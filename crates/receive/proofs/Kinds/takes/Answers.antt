@@ -3,11 +3,6 @@ use native.Mathlib.Omega.{arith}
 use Rattle.receive.proofs.KindSets.{message_below, takes_at}
 use Rattle.receive.proofs.Kinds.takes.Goals as goal
 
-pub overflow_shr-result : goal.overflow_shr-result
-overflow_shr-result c =
-    let m = c.args.m in
-    omega (arith, message_below m, c.kind.ensures)
-
 pub returns : goal.returns
 returns c =
     let a = c.args in
