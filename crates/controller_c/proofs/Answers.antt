@@ -46,7 +46,7 @@ module _ (x y : Loaded) (o : List ℕ) where
         let codes = e ∙ ap (λ (l : Loaded). node_behaviours l.node) first in
         let begun = f ∙ ap (λ (l : Loaded). node_starts l.node) second in
         let told = ap (λ (v : Behaviours). write_told (codes_of v) (starts_in s) o) codes
-            ∙ ap (λ (v : Starts). write_told (codes_of (node_behaviours x.node)) (starts_in v) o) begun in
+        ∙ ap (λ (v : Starts). write_told (codes_of (node_behaviours x.node)) (starts_in v) o) begun in
         let shown = ap (λ (v : Behaviours). write_shown (codes_of v) (starts_in s) o) codes
-            ∙ ap (λ (v : Starts). write_shown (codes_of (node_behaviours x.node)) (starts_in v) o) begun in
+        ∙ ap (λ (v : Starts). write_shown (codes_of (node_behaviours x.node)) (starts_in v) o) begun in
         (rw (yes, too) (t ∙ ap exported_written (r.0 ∙ told)), rw (yes, too) (r.1 ∙ shown))

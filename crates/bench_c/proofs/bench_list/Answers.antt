@@ -1,6 +1,5 @@
 -- `bench_list` lists the node that the two texts lead to. Assumes nothing.
 use mathlib.Core.Path.{◌∙◌, ap}
-use borrow.Author.Rules.{rules}
 use Rattle.listing.specs.Answers.{list_told, list_shown}
 use Rattle.node.specs.declared.Node.{Node}
 use Rattle.bench_c.specs.Rounds.{after}

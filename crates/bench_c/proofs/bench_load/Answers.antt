@@ -1,10 +1,7 @@
 -- `bench_load` tells the number of the last load. Assumes nothing.
 use mathlib.Core.Path.{ap}
-use Prim.Native.Nat.{◌-◌}
-use borrow.Author.Rules.{rules}
-use Rattle.plan.specs.Plans.{load_of}
 use Rattle.plan.specs.declared.Loaded.{Loaded}
-use Rattle.bench_c.proofs.Laws.{Turn, turn_first, turn_next, turn_last}
+use Rattle.bench_c.proofs.Laws.{turn_first, turn_next, turn_last}
 use Rattle.bench_c.proofs.bench_load.Goals as goal
 
 pub loop-i-init : goal.loop-i-init

@@ -1,6 +1,5 @@
 -- `bench_play_steps` plays what it loaded and read. Assumes nothing.
 use mathlib.Core.Path.{◌∙◌}
-use borrow.Author.Rules.{rules}
 use Rattle.controller.proofs.Room.{count_room, count_taken}
 use Rattle.rules.specs.Steps.{play}
 use Rattle.bench_c.specs.Rounds.{after}

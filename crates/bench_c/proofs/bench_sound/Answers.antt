@@ -1,6 +1,5 @@
 -- `bench_sound` looks at the node that the two texts lead to. Assumes nothing.
 use mathlib.Core.Path.{◌∙◌, ap}
-use borrow.Author.Rules.{rules}
 use Rattle.bench_c.specs.Rounds.{sound_in}
 use Rattle.bench_c.proofs.bench_sound.Goals as goal
 

@@ -1,6 +1,5 @@
 -- `bench_step` tries what it read on what it loaded. Assumes nothing.
 use mathlib.Core.Path.{◌∙◌}
-use borrow.Author.Rules.{rules}
 use Rattle.controller.proofs.Room.{count_room, count_taken}
 use Rattle.bench_c.specs.Rounds.{after, singly}
 use Rattle.bench_c.proofs.Laws.{of_texts}

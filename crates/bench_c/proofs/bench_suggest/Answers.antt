@@ -1,6 +1,5 @@
 -- `bench_suggest` looks for a step on the node that the two texts lead to. Assumes nothing.
 use mathlib.Core.Path.{◌∙◌, ap}
-use borrow.Author.Rules.{rules}
 use Rattle.bench_c.specs.Rounds.{stuck_in}
 use Rattle.bench_c.proofs.bench_suggest.Goals as goal
 

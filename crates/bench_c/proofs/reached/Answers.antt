@@ -1,6 +1,5 @@
 -- `reached` plays the steps of the one text on the node of the other. Assumes nothing.
 use mathlib.Core.Path.{◌∙◌, ap}
-use borrow.Author.Rules.{rules}
 use Rattle.controller.proofs.Room.{count_room, count_taken}
 use Rattle.rules.specs.Steps.{Outcome, play}
 use Rattle.bench_c.proofs.Laws.{of_texts}

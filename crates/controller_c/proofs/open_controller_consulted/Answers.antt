@@ -1,5 +1,4 @@
 -- `open_controller_consulted` tells the count of the node that is reached. Assumes nothing.
-use borrow.Author.Rules.{rules}
 use Rattle.controller_c.proofs.Counts.{count_refused, count_reached}
 use Rattle.controller_c.proofs.open_controller_consulted.Goals as goal
 

@@ -1,5 +1,4 @@
 -- `open_controller_simulate` tells the length, or the refusal as one number. Assumes nothing.
-use borrow.Author.Rules.{rules}
 use Rattle.controller.specs.Calls.{simulated_of}
 use Rattle.controller_c.proofs.Answers.{told_refusal, told_length}
 use Rattle.controller_c.proofs.open_controller_simulate.Goals as goal

@@ -1,5 +1,4 @@
 -- `open_controller_suggest` tells the suggestion on the node that is reached. Assumes nothing.
-use borrow.Author.Rules.{rules}
 use Rattle.controller_c.proofs.Offers.{offer_refused, offer_reached}
 use Rattle.controller_c.proofs.open_controller_suggest.Goals as goal
 

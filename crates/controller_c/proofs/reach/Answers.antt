@@ -1,5 +1,4 @@
 -- `reach` loads, reads and plays. Assumes nothing.
-use borrow.Author.Rules.{rules}
 use Rattle.controller.proofs.Room.{count_room, count_taken}
 use Rattle.controller_c.proofs.Reaches.{plan_refused, steps_refused, both_played}
 use Rattle.controller_c.proofs.reach.Goals as goal

@@ -1,5 +1,4 @@
 -- `answer` gives the whole answer: its buffer holds the longest. Assumes nothing.
-use borrow.Author.Rules.{rules}
 use Rattle.controller.proofs.Short.{program_answered}
 use Rattle.open_controller.proofs.answer.Goals as goal
 

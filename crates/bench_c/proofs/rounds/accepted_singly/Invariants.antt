@@ -1,9 +1,7 @@
 -- `accepted_singly` tries each step on the node that the steps before it left. Assumes nothing.
-use mathlib.Core.Logic.{⊎_elim}
 use Prim.Native.Nat.{◌-◌}
-use borrow.Author.Rules.{rules}
 use lib.ListN.{length}
-use Rattle.bench_c.proofs.Singly.{Singly, singly_first, singly_more, singly_same, singly_last}
+use Rattle.bench_c.proofs.Singly.{Singly}
 use Rattle.bench_c.proofs.rounds.accepted_singly.Given as goal
 
 abbrev pub invariant-loop-i : goal.invariant-loop-i

@@ -1,10 +1,7 @@
 -- `lists` tells the last listing's length; each listing but the first is written over itself. Assumes nothing.
 use mathlib.Core.Path.{◌∙◌, ap}
-use Prim.Native.Nat.{◌-◌}
-use borrow.Author.Rules.{rules}
 use Rattle.listing.specs.declared.Listed.{Listed}
-use Rattle.listing.specs.Answers.{list_told, list_shown}
-use Rattle.bench_c.proofs.Laws.{Turn, turn_first, turn_next, turn_last}
+use Rattle.bench_c.proofs.Laws.{turn_first, turn_next, turn_last}
 use Rattle.bench_c.proofs.Listings.{list_turn, list_length}
 use Rattle.bench_c.proofs.rounds.lists.Goals as goal
 

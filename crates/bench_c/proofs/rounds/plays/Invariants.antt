@@ -1,11 +1,9 @@
 -- `plays` tells the count of the last play. Assumes nothing.
 use mathlib.Core.List.{map}
-use mathlib.Core.Path.{ap}
 use Prim.Native.Nat.{◌-◌}
-use borrow.Author.Rules.{rules}
 use Rattle.actions.specs.Numbers.{action_of}
-use Rattle.rules.specs.Steps.{Outcome, play}
-use Rattle.bench_c.proofs.Laws.{Turn, turn_first, turn_next, turn_last}
+use Rattle.rules.specs.Steps.{play}
+use Rattle.bench_c.proofs.Laws.{Turn}
 use Rattle.bench_c.proofs.rounds.plays.Given as goal
 
 abbrev pub invariant-loop-i : goal.invariant-loop-i

@@ -1,10 +1,6 @@
 -- `sounds` counts the rounds in which the node was found sound. Assumes nothing.
-use mathlib.Core.Logic.{⊎_elim}
-use Prim.Native.Nat.{◌-◌}
-use borrow.Author.Rules.{rules}
-use Rattle.rules.specs.Nodes.{sound}
 use Rattle.bench_c.specs.Rounds.{sound_in}
-use Rattle.bench_c.proofs.Laws.{Said, said_first, said_more, said_same, said_last}
+use Rattle.bench_c.proofs.Laws.{said_first, said_more, said_same, said_last}
 use Rattle.bench_c.proofs.rounds.sounds.Goals as goal
 use Rattle.bench_c.proofs.rounds.sounds.Goals.{then-sound, else-sound}
 
@@ -14,8 +10,8 @@ loop-i-init c = said_first
 pub loop-i-preserved : goal.loop-i-preserved
 loop-i-preserved c =
     elim c.if-sound.branch [
-      then-sound w ↦ rw w.said-is (said_more c.loop-i.invariant c.sound.ensures c.loop-i-test.true w.if-sound.true)
-    | else-sound w ↦ rw w.said-is (said_same c.loop-i.invariant c.sound.ensures c.loop-i-test.true w.if-sound.false)
+      | then-sound w ↦ rw w.said-is (said_more c.loop-i.invariant c.sound.ensures c.loop-i-test.true w.if-sound.true)
+      | else-sound w ↦ rw w.said-is (said_same c.loop-i.invariant c.sound.ensures c.loop-i-test.true w.if-sound.false)
     ]
 
 pub returns : goal.returns

@@ -1,10 +1,5 @@
 -- `steps_singly` tells the count of the last round. Assumes nothing.
-use mathlib.Core.List.{map}
-use Prim.Native.Nat.{◌-◌}
-use borrow.Author.Rules.{rules}
-use Rattle.actions.specs.Numbers.{action_of}
-use Rattle.bench_c.specs.Rounds.{singly}
-use Rattle.bench_c.proofs.Laws.{Turn, turn_first, turn_next, turn_last}
+use Rattle.bench_c.proofs.Laws.{turn_first, turn_next, turn_last}
 use Rattle.bench_c.proofs.rounds.steps_singly.Goals as goal
 
 pub loop-i-init : goal.loop-i-init

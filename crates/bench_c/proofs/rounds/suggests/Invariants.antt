@@ -1,11 +1,8 @@
 -- `suggests` counts the rounds in which no step was suggested on a sound node. Assumes nothing.
-use mathlib.Core.Logic.{⊎_elim}
-use mathlib.Core.Path.{◌∙◌, ap}
 use Prim.Native.Nat.{◌-◌}
-use borrow.Author.Rules.{rules}
 use Rattle.rules.specs.Suggest.{suggest}
-use Rattle.bench_c.specs.Rounds.{says_none, stuck_in}
-use Rattle.bench_c.proofs.Laws.{Said, said_first, said_more, said_same, said_last, says_none_lem}
+use Rattle.bench_c.specs.Rounds.{says_none}
+use Rattle.bench_c.proofs.Laws.{Said}
 use Rattle.bench_c.proofs.rounds.suggests.Given as goal
 
 abbrev pub invariant-loop-i : goal.invariant-loop-i
