@@ -1,8 +1,8 @@
 -- Laws of rule 14 by the ops as they stand in a node, and of the walk that looks for the first op that breaks it. Assumes nothing.
 --   placed_recv placed_out placed_in   rule 14 of a recv, of another op that stands out of turn, and of one that does not
 --   clauses_few clauses_begin clause_stop clause_more clauses_end   the loop over the clauses of a recv
---   in_stop in_more in_end         the loop over the ops of a behaviour
---   from_stop from_more from_end   the loop over the behaviours
+--   in_begin in_stop in_more in_end       the loop over the ops of a behaviour
+--   from_stop from_more from_end          the loop over the behaviours
 use mathlib.Core.Bool.{Bool, true, false, not, cond, and-true}
 use mathlib.Core.List.{List, []}
 use mathlib.Core.Path.{◌≡◌, sym, ◌∙◌, ap}
@@ -112,6 +112,9 @@ module _ (code : List Instruction) (f t : ℕ) {g : ℕ} (inv : g ≡ misplaced_
   pub in_end : length code ≤ t → 0 ≡ g
   unfolding misplaced_in
   in_end h = sym (inv ∙ rw (drop_of_length-le code {i = t} h))
+
+pub in_begin : (code : List Instruction) (f : ℕ) → misplaced_in code 0 f code ≡ misplaced_in code 0 (f + 0) (drop 0 code)
+in_begin code f = let e : f + 0 ≡ f = omega arith in rw e
 
 -- ---- the behaviours
 

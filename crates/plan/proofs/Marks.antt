@@ -1,5 +1,6 @@
 -- Laws of marks: what is read of a line, whatever reads it. Assumes nothing.
---   line_start            a line lies within the text
+--   line_end_lem line_start   a line lies within the text
+--   line_short            numbers of lines and places are small
 --   line_read             a line that is there, read by f
 --   line_missing          a line that is not, or has no byte 10
 --   end_stopped end_read  the end of a text, behind a refusal and behind a result
@@ -15,7 +16,7 @@ use lib.ListN.{length, take, drop}
 use Rattle.rules.specs.Answers.{Answer}
 use Rattle.text.specs.Numbers.{malformed}
 use Rattle.text.specs.Parts.{line_then, lines_of, place_from}
-use Rattle.text.proofs.Parts.{drop_at, place_after, lines_at, lines_rest, lines_none}
+use Rattle.text.proofs.Parts.{drop_at, place_after, place_inside, lines_at, lines_rest, lines_none}
 use Rattle.plan.specs.declared.Mark.{Mark}
 use Rattle.plan.specs.Marks.{left_at, mark_read, mapped, stopped, behind, end_mark, Within, Reached}
 use Rattle.plan_line.specs.Lines.{answered}
@@ -24,6 +25,12 @@ use Rattle.plan.specs.Reading.{bad, good, judged, on_line, end_of}
 module _ (s : List ℕ) (m : Mark) {e : ℕ} (w : Within s m) (h : e ≡ place_from (code "\n") m.at s) where
   pub line_start : m.at ≤ e
   line_start = place_after (code "\n") s w.at h
+
+  pub line_end_lem : e ≤ length s
+  line_end_lem = place_inside (code "\n") s w.at h
+
+  pub line_short : e < length s → (m.line < 65536) × (e < 65536)
+  line_short l = let a = w.line in let b = w.at in let d = w.short in (omega arith, omega arith)
 
   module _ {A : Type 0} (f : List ℕ → Answer A) (a : A) {r : Mark} where
     pub line_missing : length s ≤ e → r ≡ stopped m malformed → Reached s r a (on_line f (left_at s m))

@@ -84,7 +84,10 @@ map_set f [] i x = refl
 map_set f (y ∷ l) zero x = refl
 map_set {B = B} f (y ∷ l) (suc i) x = ap (λ (t : List B). f y ∷ t) (map_set f l i x)
 
-process_fresh : (b : BehaviourNumber) {p : Process} → 1 ≤ b.0 → p ≡ fresh b int_zero → p ≡ process_of b.0
+pub process_none : {b : ℕ} {p : Process} → b ≡ 0 → p ≡ unborn → p ≡ process_of b
+process_none e q = rw e q
+
+pub process_fresh : (b : BehaviourNumber) {p : Process} → 1 ≤ b.0 → p ≡ fresh b int_zero → p ≡ process_of b.0
 process_fresh b {p} h q = go b.0 refl h
   where
     go : (k : ℕ) → b.0 ≡ k → 1 ≤ k → p ≡ process_of k
