@@ -128,7 +128,7 @@ fn reach(plan: &[u8], steps: &[u8]) -> Reached
     }
 }
 
-// What a C caller is told of a suggestion. A play of a loaded node leaves a sound one, so that the first case is never met (`offer-made`).
+// What a C caller is told of a suggestion. A play of a loaded node leaves a sound one, so that the first case is never met (`offer_made`).
 fn offer_number(s: Suggestion) -> usize
     ensures { result ≡ exported_offer (suggestion_of s) }
 {
@@ -139,7 +139,7 @@ fn offer_number(s: Suggestion) -> usize
     }
 }
 
-// What a C caller is told of a search. The first case is never met here either (`count-told`).
+// What a C caller is told of a search. The first case is never met here either (`count_told_lem`).
 fn count_number(c: Consulted) -> usize
     ensures { result ≡ exported_count (consulted_of c) }
 {

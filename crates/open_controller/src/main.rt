@@ -28,7 +28,7 @@ fn main(rt: HostRuntime) {
     }
 }
 
-// The whole answer, and its length: by `program-short` the buffer is never too short (30), so that nothing is left to be told here.
+// The whole answer, and its length: by `program_short` the buffer is never too short (30), so that nothing is left to be told here.
 fn answer(plan: &[u8], steps: &[u8], out: &mut [u8]) -> usize
     requires { longest_answer ≤ length out.old }
     ensures { Whole (program_text plan.now steps.now) out.old result out.new }
