@@ -1,5 +1,5 @@
 -- `play_steps` walks over the steps: before the first of them, one further, and at the end. Assumes nothing.
-use Rattle.std.proofs.Common.{◌≡◌, ap, arith}
+use Rattle.std.proofs.Common.{◌≡◌, ◌<◌, ap, arith}
 use Rattle.rules.specs.Steps.{Outcome}
 use Rattle.engine.specs.Answers.{played_of}
 use Rattle.steps.specs.Walk.{begins}
@@ -16,11 +16,11 @@ loop-left-init c =
 pub loop-left-preserved : goal.loop-left-preserved
 loop-left-preserved c =
     let v = c.loop-left.invariant in
-    let some = c.loop-left-test.true in
+    let some : 0 < c.loop-left.left = omega arith in
     let up = walked_more c.args.steps.now c.loop-left.left c.reach-left.result (played_of c.loop-left.r) (played_of c.onward-r.result) some v.0 c.onward-r.ensures c.reach-left.ensures v.2 in
     (omega (arith, up.0, v.0), omega (arith, up.0, up.1, v.1), up.2)
 
 pub returns : goal.returns
 returns c =
     let v = c.loop-left.invariant in
-    walked_last c.args.steps.now c.loop-left.left (played_of c.loop-left.r) c.loop-left-test.false v.2
+    walked_last c.args.steps.now c.loop-left.left (played_of c.loop-left.r) (omega arith) v.2
