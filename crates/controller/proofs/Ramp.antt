@@ -192,8 +192,8 @@ waiter = rower 6 int_zero int_zero false unlinked_links
 
 -- ---- P2: the sample of document 01, byte by byte
 
-sample_plan_lem : List ℕ
-sample_plan_lem =
+sample_plan_text : List ℕ
+sample_plan_text =
     bytes "plan=1\nbehaviours=2\n"
     ++ bytes "code=3\nop=set,0,p2\nop=set,1,i12\nop=send,0,1\n"
     ++ bytes "code=2\nop=recv,1\nop=clause,int,0,1,2\n"
@@ -218,7 +218,7 @@ table =
     -- P1 no steps: same node, 0 accepted
     idle
     -- P2 the listing of the sample
-    ∷ printing sample_plan_lem sample_steps sample_output
+    ∷ printing sample_plan_text sample_steps sample_output
     -- P3 exit(a0,0), trap 0: from another dropped; from itself ends with a0
     ∷ arrival (plain false unlinked_links) 2 (Exit normal false) (plain false unlinked_links) []
     ∷ arrival (plain false unlinked_links) 1 (Exit normal false) (closed int_zero int_zero false unlinked_links normal) []
@@ -305,8 +305,8 @@ node_started : node_of sample_plan ≡ started
 unfolding node_of sample_plan op_with start_with started sample op_of
 node_started = refl
 
-sample_loaded : load_of sample_plan_lem ≡ record { number = 0; line = 0; node = started }
-unfolding sample_plan_lem
+sample_loaded : load_of sample_plan_text ≡ record { number = 0; line = 0; node = started }
+unfolding sample_plan_text
 sample_loaded = loaded-sample ∙ ap (λ (n : Node). record { number = 0; line = 0; node = n }) node_started
 
 sample_read : ((schedule_of sample_steps).number ≡ 0) × (steps (schedule_of sample_steps) ≡ sample_actions)
@@ -322,7 +322,7 @@ shown_as : (r : Outcome) (text : List ℕ) → r.accepted ≡ 5 → r.refusal �
 unfolding played_text number_line digits digits_in
 shown_as r text a b c = rw (a, b, c)
 
-sample_program : program_text sample_plan_lem sample_steps ≡ sample_output
+sample_program : program_text sample_plan_text sample_steps ≡ sample_output
 unfolding program_text after_load sample_output
 sample_program =
     let read = sample_read in
