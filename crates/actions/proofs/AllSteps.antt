@@ -1,18 +1,18 @@
--- The possible steps: the record that stands at a turn, and the loop that makes their numbers. Assumes nothing.
---   step_at_lem                  what the code makes of a turn is the record of the possible step there
+-- The possible steps: the record that stands at a turn, and their numbers. Assumes nothing.
+--   step_at_lem              what the code makes of a turn is the record of the possible step there
 --   Filled l k               the numbers of the steps before k stand in l
---   filled_more, filled_all  one more; all of them are the numbers of the possible steps
+--   filled_all               all of them are the numbers of the possible steps
+--   numbers_count            how many they are
 --   numbers_mean number_at   the numbers stand for the possible steps, and each for the record of its step
 use mathlib.Core.Bool.{Bool, true, false, cond}
 use mathlib.Core.List.{List, map}
 use mathlib.Core.Path.{◌≡◌, refl, sym, ◌∙◌, ap}
 use Prim.Native.Nat.{ℕ, ◌+◌, ◌-◌, ◌/◌, ◌%◌, ◌≤◌, ◌<◌}
-use native.Mathlib.Decide.{ℕ_discrete}
 use native.Mathlib.Omega.{arith}
 use borrow.Author.Tests.{eqb-true}
 use lib.Dec.{eqb}
-use lib.ListN.{length, get_or, set}
-use lib.Seq.{ext_get_or, get_or-set_same, get_or-set_other}
+use lib.ListN.{length, get_or}
+use lib.Seq.{ext_get_or}
 use Rattle.node.specs.declared.Step.{Step}
 use Rattle.rules.specs.Steps.{run, arrive, timeout, record_of, meaning}
 use Rattle.rules.specs.Suggest.{possible, at_turn}
@@ -44,18 +44,11 @@ step_at_lem k h = of_turn k ∙ ap record_of (sym (possible_at k h))
 abbrev pub Filled : List ℕ → ℕ → Type 0
 Filled l k = (j : ℕ) → j < k → get_or l j 0 ≡ encode (record_of (at_turn j))
 
-numbers_count : 288 ≡ length possible_numbers
+pub numbers_count : 288 ≡ length possible_numbers
 unfolding possible_numbers possible
 numbers_count = refl
 
 module _ (l : List ℕ) (size : length l ≡ 288) where
-  pub filled_more : (k x : ℕ) → k < 288 → x ≡ encode (record_of (at_turn k)) → Filled l k → Filled (set l k x) (k + 1)
-  filled_more k x h e f j b = go (ℕ_discrete j k)
-    where
-      go : Dec (j ≡ k) → get_or (set l k x) j 0 ≡ encode (record_of (at_turn j))
-      go (yes q) = rw q (get_or-set_same l k x 0 (rw size h) ∙ e)
-      go (no q) = get_or-set_other l k j x 0 q ∙ f j (omega arith)
-
   pub filled_all : (k : ℕ) → 288 ≤ k → Filled l k → l ≡ possible_numbers
   unfolding possible_numbers
   filled_all k h f =

@@ -8,6 +8,7 @@ ghost use Rattle.actions.specs.Numbers.{encode, decode, possible_numbers};
 ghost use Rattle.actions.specs.Places.{process_at, row_at, behaviour_at, op_at, decoded_of};
 
 use node::{BehaviourNumber, ProcessNumber, Step, fallen, is_number};
+use std::array;
 
 // What the number of a step says: whether a process number in it is none (20), whether it is an arrival or a timeout, whose it is, from whom,
 // and where the owner's process and the row stand.
@@ -35,9 +36,7 @@ pub fn row_index(j: ProcessNumber, i: ProcessNumber) -> usize
     ensures value { result ≡ row_at j.0 i.0 }
     ensures upper_bound { result < 256 }
 {
-    let from = process_index(j);
-    let to = process_index(i);
-    16 * from + to
+    16 * process_index(j) + process_index(i)
 }
 
 // Where the length of behaviour b stands.
@@ -53,8 +52,7 @@ pub fn op_index(b: BehaviourNumber, place: u8) -> usize
     ensures value { result ≡ op_at b.0 place }
     ensures upper_bound { result < 256 }
 {
-    let w = behaviour_index(b);
-    32 * w + ((place % 32) as usize)
+    32 * behaviour_index(b) + ((place % 32) as usize)
 }
 
 // The number of a step, which stands for that step.
@@ -62,29 +60,17 @@ pub fn encode(s: Step) -> u32
     ensures value { result ≡ encode s }
     ensures result_value { decode result ≡ s }
 {
-    let owner = s.owner;
-    let from = s.from;
-    (s.kind as u32) * 65536 + (owner.0 as u32) * 256 + (from.0 as u32)
+    (s.kind as u32) * 65536 + (s.owner.0 as u32) * 256 + (s.from.0 as u32)
 }
 
 // The step that a number stands for.
 pub fn step_of(number: u32) -> Step
     ensures { result ≡ decode number }
 {
-    let owner = ((number / 256) % 256) as u8;
-    let from = (number % 256) as u8;
-    let kind = number / 65536;
-    if kind < 256 {
-        return Step {
-            kind: kind as u8,
-            owner: ProcessNumber(owner),
-            from: ProcessNumber(from),
-        };
-    }
     Step {
-        kind: 255,
-        owner: ProcessNumber(owner),
-        from: ProcessNumber(from),
+        kind: (number / 65536).min(255) as u8,
+        owner: ProcessNumber((number / 256 % 256) as u8),
+        from: ProcessNumber((number % 256) as u8),
     }
 }
 
@@ -99,26 +85,15 @@ pub fn decode(s: u32) -> Decoded
     if !is_number(owner.0) {
         return unnumbered(kind, owner, from);
     }
-    if kind == 0 {
-        return own(false, owner, from);
-    }
-    if kind == 2 {
-        return own(true, owner, from);
-    }
-    if kind != 1 {
-        return unnumbered(kind, owner, from);
-    }
-    if !is_number(from.0) {
-        return unnumbered(kind, owner, from);
-    }
-    Decoded {
-        bad: false,
-        arrives: true,
-        expires: false,
-        owner,
-        from,
-        at: process_index(owner),
-        row: row_index(from, owner),
+    match kind {
+        0 => own(false, owner, from),
+        1 if is_number(from.0) => Decoded {
+            arrives: true,
+            row: row_index(from, owner),
+            ..own(false, owner, from)
+        },
+        2 => own(true, owner, from),
+        _ => unnumbered(kind, owner, from),
     }
 }
 
@@ -157,14 +132,12 @@ fn unnumbered(kind: u32, owner: ProcessNumber, from: ProcessNumber) -> Decoded
 pub fn possible_numbers() -> [u32; 288]
     ensures { result ≡ possible_numbers }
 {
-    let mut numbers = [0u32; 288];
-    let mut k: usize = 0;
-    while k < 288 {
-        let s = possible(k as u16);
-        numbers[k] = encode(s);
-        k += 1;
-    }
-    numbers
+    array::from_fn(
+        |k: usize| -> u32
+            requires { k < 288 }
+            ensures { result ≡ encode (record_of (at_turn k)) }
+        { encode(possible(k as u16)) },
+    )
 }
 
 // The possible step of turn k: 18 turns for each owner.
@@ -185,11 +158,9 @@ fn possible(k: u16) -> Step
 fn possible_kind(turn: u8) -> u8
     ensures { result ≡ cond (eqb turn 0) 0 (cond (eqb turn 1) 2 1) }
 {
-    if turn == 0 {
-        return 0;
+    match turn {
+        0 => 0,
+        1 => 2,
+        _ => 1,
     }
-    if turn == 1 {
-        return 2;
-    }
-    1
 }

@@ -1,10 +1,10 @@
 -- What the code reads of the ops of a node is what the plan's rules read of its behaviours. Assumes nothing.
 use mathlib.Core.Bool.{Bool, true, false, ◌&&◌, ◌||◌, not, cond}
 use mathlib.Core.List.{List, [], ◌∷◌, map}
-use mathlib.Core.Logic.{◌⊎◌, inl, inr}
 use mathlib.Core.Path.{◌≡◌, refl, sym, ◌∙◌, ap}
 use Prim.Native.Nat.{ℕ, ◌+◌, ◌-◌, ◌*◌, ◌≤◌, ◌<◌}
 use native.Mathlib.Omega.{arith}
+use Rattle.std.specs.Prelude.{Option, None, Some}
 use lib.ListN.{length, get_or, drop, get_or-eq_default}
 use lib.Seq.{get_or-drop}
 use Rattle.node.specs.declared.Op.{Op}
@@ -80,24 +80,28 @@ target_free code o =
     ∙ all_kinds o (λ t. not (on_part code t)) (kinds_of o.number)
     ∙ landed code (has_target o.number) o.target
 
--- an op that may lead to place `to`, and the op at place t
-pub target_to : (n : ℕ) (ops : List Op) (k : ℕ) (o : Op) (to : ℕ) → to ≡ cond (has_target o.number) o.target n → targets_free (code_in n ops k) (instruction o) ≡ not (on_part (code_in n ops k) to)
-target_to n ops k o to e =
-    target_free (code_in n ops k) o
-    ∙ ap (λ (m : ℕ). not (on_part (code_in n ops k) (cond (has_target o.number) o.target m))) (code_length n ops k)
-    ∙ ap (λ (u : ℕ). not (on_part (code_in n ops k) u)) (sym e)
+-- whether an op leads to a part of a recv: it leads nowhere, to a place, or past the end
+module _ (code : List Instruction) (o : Op) where
+  abbrev landing : Bool → Option ℕ
+  landing h = cond h (Some o.target) None
 
-module _ (n : ℕ) (ops : List Op) (k : ℕ) (o : Op) {to : ℕ} (by : to ≡ cond (has_target o.number) o.target n) where
-  pub lands_end : n ≤ to → true ≡ targets_free (code_in n ops k) (instruction o)
-  lands_end h = sym (target_to n ops k o to by ∙ ap not (on_part_end (code_in n ops k) to (omega (arith, code_length n ops k))))
+  nowhere : (h : Bool) → landing h ≡ None → h ≡ false
+  nowhere true e = cc
+  nowhere false e = refl
 
-  pub lands_at : {x : Op} → to < n → x ≡ get_or ops (32 * k + to) no_op → not (is_part x.number) ≡ targets_free (code_in n ops k) (instruction o)
-  lands_at h e = sym (target_to n ops k o to by ∙ ap not (on_part_at n ops k to h) ∙ ap (λ (y : Op). not (is_part y.number)) (sym e))
+  somewhere : (h : Bool) (to : ℕ) → landing h ≡ Some to → (h ≡ true) × (o.target ≡ to)
+  somewhere true to e = (refl, cc)
+  somewhere false to e = cc
 
-  -- where it leads is past the end, or on no part of a recv
-  pub lands_free : ((to < n) × (is_part (get_or ops (32 * k + to) no_op).number ≡ false)) ⊎ (n ≤ to) → targets_free (code_in n ops k) (instruction o) ≡ true
-  lands_free (inl w) = sym (lands_at w.0 refl) ∙ ap not w.1
-  lands_free (inr h) = sym (lands_end h)
+  pub free_none : cond (has_target o.number) (Some o.target) None ≡ None → true ≡ targets_free code (instruction o)
+  free_none e = sym (target_free code o ∙ rw (nowhere (has_target o.number) e, on_part_end code (length code) (omega arith)))
+
+  module _ (to : ℕ) (e : cond (has_target o.number) (Some o.target) None ≡ Some to) where
+    pub free_at : targets_free code (instruction o) ≡ not (on_part code to)
+    free_at = let w = somewhere (has_target o.number) to e in target_free code o ∙ rw (w.0, w.1)
+
+    pub free_past : length code ≤ to → true ≡ targets_free code (instruction o)
+    free_past h = sym (free_at ∙ ap not (on_part_end code to h))
 
 -- ---- all behaviours
 

@@ -19,12 +19,16 @@ use Rattle.node.proofs.Ops.{op_some, some}
 use Rattle.rules.specs.Behaviours.{in_range, instruction, operand, operand_in_range}
 use Rattle.behaviours.specs.Codes.{has_target}
 
+-- a place is among the operands of shape x
+abbrev pub with_place : Shape → Bool
+with_place x = not (all_of (λ (kind : OperandKind). not (is_kind PlaceT kind)) (kinds_in x))
+
 -- y is the shape of op n, and it is x
 module _ (n : ℕ) {y : Shape} (shaped : kinds_in y ≡ kinds_of n) (x : Shape) (is : y ≡ x) where
   by_shape : kinds_in x ≡ kinds_of n
   by_shape = sym (ap kinds_in is) ∙ shaped
 
-  pub target_at : {r : Bool} → r ≡ not (all_of (λ (kind : OperandKind). not (is_kind PlaceT kind)) (kinds_in x)) → r ≡ has_target n
+  pub target_at : {r : Bool} → r ≡ with_place x → r ≡ has_target n
   unfolding has_target
   target_at e = e ∙ ap (λ (ks : List OperandKind). not (all_of (λ (kind : OperandKind). not (is_kind PlaceT kind)) ks)) by_shape
 

@@ -1,10 +1,10 @@
 // Behaviours by the plan's rules: 12, each operand in range, and 14, clauses, `after` and targets where they belong.
 #![tactic(auto)]
 
-ghost use Rattle.std.specs.Prelude.{◌&&◌, cond, ◌≡◌, eqb, leb};
+ghost use Rattle.std.specs.Prelude.{◌&&◌, cond, ◌≡◌, ◌≤◌, Some, None, eqb, leb, length, map};
 ghost use Rattle.node.specs.Lists.{all_of};
 ghost use Rattle.node.specs.Values.{exact_kind, int_zero, is_number, last_kind, value_sound};
-ghost use Rattle.rules.specs.Behaviours.{code_sound, due_next, in_range, instruction};
+ghost use Rattle.rules.specs.Behaviours.{code_sound, due_next, in_range, instruction, targets_free};
 ghost use Rattle.behaviours.specs.Codes.{codes_in, has_target, placed_by};
 
 use node::{
@@ -12,107 +12,101 @@ use node::{
     is_number, is_part, shape_of, value_sound, within,
 };
 
-// All behaviours, of which there are `count`, in one loop over their ops: a call that takes `ops` copies 4 KB.
+// All behaviours, of which there are `count`. Each is lent as a slice of `ops`: a call that takes all of them copies 4 KB. They are three parameters
+// and no `Behaviours`, since `codes_in` and the callers' contracts speak of the three.
 pub fn behaviours_sound(count: u8, lens: [u8; 8], ops: [Op; 256]) -> bool
     ensures { result ≡ (leb 1 count && leb count 8 && all_of (code_sound count) (codes_in count lens ops)) }
 {
     if !within(count, 1, 8) {
         return false;
     }
-    let mut b: usize = 0;
-    let mut t: u8 = 0;
-    let mut due: u16 = 0;
-    while b < count as usize {
+    for b in 0..count as usize {
         let len = lens[b];
         if !within(len, 1, 32) {
             return false;
         }
-        let op = ops[32 * b + (t as usize)];
-        if !op_sound(op, count, len, due) {
+        let code = &ops[32 * b..32 * b + len as usize];
+        if !behaviour_sound(code, count) {
             return false;
         }
-        let to = landing(op, len);
-        if to < len {
-            if is_part(ops[32 * b + (to as usize)].number) {
-                return false;
-            }
-        }
-        due = due_next(due, op);
-        t += 1;
-        if t < len {
-            continue;
-        }
-        if 1 < due {
-            return false;
-        }
-        due = 0;
-        t = 0;
-        b += 1;
     }
     true
+}
+
+// A behaviour by its ops, of which there are 1 to 32.
+fn behaviour_sound(code: &[Op], count: u8) -> bool
+    requires least { 1 ≤ length code.now }
+    requires most { length code.now ≤ 32 }
+    ensures { result ≡ code_sound count (map instruction code.now) }
+{
+    let len = code.len() as u8;
+    let mut due: u16 = 0;
+    for op in code {
+        if !op_sound(*op, count, len, due) {
+            return false;
+        }
+        if !lands_free(code, *op) {
+            return false;
+        }
+        due = due_next(due, *op);
+    }
+    due <= 1
 }
 
 // An op in range that is a clause where one is due, and an `after` only where one may stand.
 pub fn op_sound(op: Op, count: u8, len: u8, due: u16) -> bool
     ensures { result ≡ (in_range count len (instruction op) && placed_by due (instruction op)) }
 {
-    if !in_range(op, count, len) {
-        return false;
+    in_range(op, count, len) && placed_by(op, due)
+}
+
+// Where `due` parts of a recv may stand, an op is a clause if one is due, and an `after` only if it is the one that may stand.
+fn placed_by(op: Op, due: u16) -> bool
+    ensures { result ≡ placed_by due (instruction op) }
+{
+    match op.number {
+        CLAUSE => 1 < due,
+        AFTER => due == 1,
+        _ => due <= 1,
     }
-    let number = op.number;
-    if number == CLAUSE {
-        return 1 < due;
-    }
-    if number == AFTER {
-        return due == 1;
-    }
-    due <= 1
 }
 
 // How many parts of a recv may stand behind an op, where `due` could before it.
 pub fn due_next(due: u16, op: Op) -> u16
     ensures { result ≡ due_next due (instruction op) }
 {
-    let number = op.number;
-    if number == RECV {
-        return (op.small as u16) + 1;
+    match op.number {
+        RECV => op.small as u16 + 1,
+        CLAUSE => due.saturating_sub(1),
+        _ => 0,
     }
-    if number == CLAUSE {
-        if 0 < due {
-            return due - 1;
-        }
-    }
-    0
 }
 
-// The place that an op may lead to by an operand; its behaviour's end, which is on no part of a recv, where it has none.
-pub fn landing(op: Op, len: u8) -> u8
-    ensures { result ≡ cond (has_target op.number) op.target len }
+// An op of a behaviour leads to no part of a recv.
+fn lands_free(code: &[Op], op: Op) -> bool
+    requires { length code.now ≤ 32 }
+    ensures { result ≡ targets_free (map instruction code.now) (instruction op) }
 {
-    let number = op.number;
-    if has_target(number) {
-        return op.target;
+    match landing(op) {
+        Some(to) => code.len() <= to as usize || !is_part(code[to as usize].number),
+        None => true,
     }
-    len
+}
+
+// The place that an op may lead to by an operand, where it has one.
+pub fn landing(op: Op) -> Option<u8>
+    ensures { result ≡ cond (has_target op.number) (Some op.target) None }
+{
+    has_target(op.number).then_some(op.target)
 }
 
 pub fn has_target(number: u8) -> bool
     ensures { result ≡ has_target number }
 {
-    let shape = shape_of(number);
-    match shape {
-        Shape::Nothing => false,
-        Shape::R => false,
-        Shape::RS => false,
-        Shape::RV => false,
-        Shape::F => false,
-        Shape::RBQ => false,
-        Shape::N => false,
-        Shape::KRST => true,
-        Shape::T => true,
-        Shape::RVT => true,
-        Shape::RST => true,
-    }
+    matches!(
+        shape_of(number),
+        Shape::KRST | Shape::T | Shape::RVT | Shape::RST
+    )
 }
 
 // Each operand of an op in range, in a behaviour of `len` ops, of `count` behaviours. The arms are the shapes of operands in `node`: looking
@@ -120,31 +114,19 @@ pub fn has_target(number: u8) -> bool
 pub fn in_range(op: Op, count: u8, len: u8) -> bool
     ensures { result ≡ in_range count len (instruction op) }
 {
-    let v = op.value;
-    let b = op.behaviour;
-    let q = op.process;
-    let shape = shape_of(op.number);
-    match shape {
+    match shape_of(op.number) {
         Shape::Nothing => false,
         Shape::R => op.r <= 3,
         Shape::RS => registers(op.r, op.s),
-        Shape::RV => register_and_value(op.r, v),
+        Shape::RV => register_and_value(op.r, op.value),
         Shape::F => op.small <= 1,
-        Shape::RBQ => register_and_numbers(op.r, b, q, count),
+        Shape::RBQ => register_and_numbers(op.r, op.behaviour, op.process, count),
         Shape::N => within(op.small, 1, 8),
         Shape::KRST => {
-            if !clause_kind_sound(op.small, v) {
-                return false;
-            }
-            registers_and_place(op.r, op.s, op.target, len)
+            clause_kind_sound(op.small, op.value) && registers_and_place(op.r, op.s, op.target, len)
         }
         Shape::T => op.target <= len,
-        Shape::RVT => {
-            if !register_and_value(op.r, v) {
-                return false;
-            }
-            op.target <= len
-        }
+        Shape::RVT => register_and_value(op.r, op.value) && op.target <= len,
         Shape::RST => registers_and_place(op.r, op.s, op.target, len),
     }
 }
@@ -153,51 +135,30 @@ pub fn in_range(op: Op, count: u8, len: u8) -> bool
 pub fn clause_kind_sound(kind: u8, v: Value) -> bool
     ensures { result ≡ (leb kind last_kind && value_sound (cond (eqb kind exact_kind) v int_zero)) }
 {
-    if LAST_KIND < kind {
-        return false;
-    }
-    if kind == EXACT {
-        return value_sound(v);
-    }
-    true
+    kind <= LAST_KIND && (kind != EXACT || value_sound(v))
 }
 
 fn registers(r: u8, s: u8) -> bool
     ensures { result ≡ (leb r 3 && leb s 3) }
 {
-    if 3 < r {
-        return false;
-    }
-    s <= 3
+    r <= 3 && s <= 3
 }
 
 fn registers_and_place(r: u8, s: u8, t: u8, len: u8) -> bool
     ensures { result ≡ (leb r 3 && leb s 3 && leb t len) }
 {
-    if !registers(r, s) {
-        return false;
-    }
-    t <= len
+    registers(r, s) && t <= len
 }
 
 fn register_and_value(r: u8, v: Value) -> bool
     ensures { result ≡ (leb r 3 && value_sound v) }
 {
-    if 3 < r {
-        return false;
-    }
-    value_sound(v)
+    r <= 3 && value_sound(v)
 }
 
 // The register, the behaviour and the process of a spawn.
 fn register_and_numbers(r: u8, b: BehaviourNumber, q: ProcessNumber, count: u8) -> bool
     ensures { result ≡ (leb r 3 && (leb 1 b.0 && leb b.0 count) && is_number q.0) }
 {
-    if 3 < r {
-        return false;
-    }
-    if !within(b.0, 1, count) {
-        return false;
-    }
-    is_number(q.0)
+    r <= 3 && within(b.0, 1, count) && is_number(q.0)
 }

@@ -15,12 +15,10 @@ use borrow.Author.Tests.{ne_eqb}
 use Rattle.controller.specs.Program.{steps}
 use Rattle.engine.specs.Answers.{recorded}
 use Rattle.node.specs.declared.Node.{Node}
-use Rattle.plan.specs.declared.Loaded.{Loaded}
-use Rattle.plan.specs.Plans.{load_of}
+use Rattle.plan.specs.Plans.{Loaded, load_of}
 use Rattle.rules.specs.Answers.{Answer, refused, done}
 use Rattle.rules.specs.Steps.{Action}
-use Rattle.schedule.specs.declared.Schedule.{Schedule}
-use Rattle.schedule.specs.Reading.{schedule_of}
+use Rattle.schedule.specs.Reading.{Schedule, schedule_of}
 use Rattle.bench_c.specs.Rounds.{after, says_none}
 
 pub of_texts : {A : Type 0} (f : Node → List Action → A) (p q : List ℕ) {l : Loaded} {s : Schedule} → l ≡ load_of p → s ≡ schedule_of q → f l.node (steps s)

@@ -1,6 +1,6 @@
 -- Steps taken one by one. Assumes nothing.
 --   Singly n xs m a i                      i of the steps xs are tried from node n on, a of them accepted, and the node is m
---   singly_first singly_more singly_same   it holds at first, and is kept by a step that is accepted and by one that is refused
+--   singly_first singly_more singly_kept   it holds at first, and is kept by a step that is accepted and by one that is refused
 --   singly_last                            what it gives at the end
 use mathlib.Core.Bool.{cond}
 use mathlib.Core.List.{List, [], ◌∷◌, map}
@@ -11,10 +11,12 @@ use borrow.Author.Tests.{eq-eqb, ne_eqb}
 use lib.Dec.{eqb}
 use lib.ListN.{length, get_or, drop, drop_of_length-le}
 use Rattle.actions.specs.Numbers.{decode, action_of}
-use Rattle.engine.specs.declared.Stepped.{Stepped}
-use Rattle.engine.specs.Answers.{stepped_by}
+use Rattle.engine.specs.Answers.{Stepped, stepped_of, stepped_by}
 use Rattle.text.proofs.Parts.{drop_next}
+use Rattle.std.specs.Prelude.{Result, Ok, Err}
+use Rattle.node.proofs.Refusals.{above_zero}
 use Rattle.node.specs.declared.Node.{Node}
+use Rattle.node.specs.declared.Refusal.{Refusal}
 use Rattle.node.specs.declared.Step.{Step}
 use Rattle.rules.specs.Steps.{Action, meaning, step}
 use Rattle.bench_c.specs.Rounds.{singly}
@@ -51,10 +53,16 @@ module _ {n : Node} {xs : List ℕ} where
           let z : singly m (map action_of (drop i xs)) ≡ 1 + singly r.node rest = rw (eq-eqb r.refusal 0 e) at turn in
           record { within = omega (arith, h); fewer = omega (arith, t.fewer); left = omega (arith, z, t.left) }
 
-      pub singly_same : (r.refusal ≡ 0 → ⊥) → Singly n xs r.node a (i + 1)
+      singly_same : (r.refusal ≡ 0 → ⊥) → Singly n xs r.node a (i + 1)
       singly_same e =
           let z : singly m (map action_of (drop i xs)) ≡ 0 + singly r.node rest = rw (ne_eqb r.refusal 0 e) at turn in
           record { within = omega (arith, h); fewer = omega (arith, t.fewer); left = omega (arith, z, t.left) }
+
+    -- a step that is refused leaves the node
+    pub singly_kept : (h : i < length xs) {s : Step} → s ≡ decode (get_or xs i 0) → (r : Result Node Refusal) → ((k : Node) → r ≡ Ok k → ⊥)
+        → stepped_of m r ≡ stepped_by m (step m (meaning s)) → Singly n xs m a (i + 1)
+    singly_kept h named (Ok k) none e = absurd (none k refl)
+    singly_kept h named (Err k) none e = singly_same h named e (above_zero k)
 
     pub singly_last : length xs ≤ i → a ≡ singly n (map action_of xs)
     unfolding singly

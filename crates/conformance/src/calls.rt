@@ -70,9 +70,9 @@ pub(crate) fn stepped(rt: &impl Print, n: Node, kind: u8, from: u8) -> io::Resul
         owner: ProcessNumber(1),
         from: ProcessNumber(from),
     };
-    let r = engine::step(n, s);
-    show::one(rt, b"step=", r.refusal as u64)?;
-    show::listed(rt, r.node)
+    let told = engine::step(n, s);
+    show::stepped(rt, told)?;
+    show::listed(rt, told.unwrap_or(n))
 }
 
 pub(crate) fn stopping() -> Node {

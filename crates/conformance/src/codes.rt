@@ -33,47 +33,40 @@ pub(crate) fn plain(number: u8) -> Op {
 }
 
 fn with_registers(number: u8, r: u8, s: u8) -> Op {
-    let mut o = plain(number);
-    o.r = r;
-    o.s = s;
-    o
+    Op {
+        r,
+        s,
+        ..plain(number)
+    }
 }
 
 pub(crate) fn with_small(number: u8, small: u8) -> Op {
-    let mut o = plain(number);
-    o.small = small;
-    o
+    Op {
+        small,
+        ..plain(number)
+    }
 }
 
 pub(crate) fn with_target(number: u8, target: u8) -> Op {
-    let mut o = plain(number);
-    o.target = target;
-    o
+    Op {
+        target,
+        ..plain(number)
+    }
 }
 
 pub(crate) fn with_value(number: u8, small: u8, value: Value) -> Op {
     Op {
-        number,
-        r: 0,
-        s: 0,
-        target: 0,
         small,
-        process: ProcessNumber(1),
-        behaviour: BehaviourNumber(1),
         value,
+        ..plain(number)
     }
 }
 
 fn spawn(b: u8, q: u8) -> Op {
     Op {
-        number: 9,
-        r: 0,
-        s: 0,
-        target: 0,
-        small: 0,
         process: ProcessNumber(q),
         behaviour: BehaviourNumber(b),
-        value: Value::ZERO,
+        ..plain(9)
     }
 }
 
@@ -84,70 +77,91 @@ fn behaviours(rt: &impl Print) -> io::Result<()> {
         b"sound: a behaviour of 32 ops",
         unsound::with_length(32),
     )?;
-    holds::with_op(rt, b"sound: the last op number", AT_JUMP, plain(15))
+    holds::whole(
+        rt,
+        b"sound: the last op number",
+        parts::with_op(AT_JUMP, plain(15)),
+    )
 }
 
 // Registers are 0 to 3.
 fn registers(rt: &impl Print) -> io::Result<()> {
-    refused::with_op(rt, b"31 an op with r4", AT_JUMP, with_registers(2, 4, 0))?;
-    holds::with_op(
+    refused::whole(
+        rt,
+        b"31 an op with r4",
+        parts::with_op(AT_JUMP, with_registers(2, 4, 0)),
+    )?;
+    holds::whole(
         rt,
         b"sound: an op with r3",
-        AT_JUMP,
-        with_registers(2, 3, 0),
+        parts::with_op(AT_JUMP, with_registers(2, 3, 0)),
     )?;
-    refused::with_op(rt, b"31 an op with s4", AT_JUMP, with_registers(1, 0, 4))?;
-    holds::with_op(
+    refused::whole(
+        rt,
+        b"31 an op with s4",
+        parts::with_op(AT_JUMP, with_registers(1, 0, 4)),
+    )?;
+    holds::whole(
         rt,
         b"sound: an op with s3",
-        AT_JUMP,
-        with_registers(1, 0, 3),
+        parts::with_op(AT_JUMP, with_registers(1, 0, 3)),
     )
 }
 
 fn clause_registers(rt: &impl Print) -> io::Result<()> {
-    refused::with_op(
+    refused::whole(
         rt,
         b"31 a clause with r4",
-        AT_CLAUSE,
-        with_registers(11, 4, 0),
+        parts::with_op(AT_CLAUSE, with_registers(11, 4, 0)),
     )?;
-    refused::with_op(
+    refused::whole(
         rt,
         b"31 a clause with s4",
-        AT_CLAUSE,
-        with_registers(11, 0, 4),
+        parts::with_op(AT_CLAUSE, with_registers(11, 0, 4)),
     )?;
-    holds::with_op(
+    holds::whole(
         rt,
         b"sound: a clause with r3, s3",
-        AT_CLAUSE,
-        with_registers(11, 3, 3),
+        parts::with_op(AT_CLAUSE, with_registers(11, 3, 3)),
     )
 }
 
 // A trap flag is 0 or 1, a clause's kind one of seven.
 fn smalls(rt: &impl Print) -> io::Result<()> {
-    refused::with_op(rt, b"31 a trap flag of 7", AT_JUMP, with_small(8, 7))?;
-    refused::with_op(rt, b"31 a trap flag of 2", AT_JUMP, with_small(8, 2))?;
-    holds::with_op(rt, b"sound: a trap flag of 1", AT_JUMP, with_small(8, 1))?;
-    refused::with_op(
+    refused::whole(
+        rt,
+        b"31 a trap flag of 7",
+        parts::with_op(AT_JUMP, with_small(8, 7)),
+    )?;
+    refused::whole(
+        rt,
+        b"31 a trap flag of 2",
+        parts::with_op(AT_JUMP, with_small(8, 2)),
+    )?;
+    holds::whole(
+        rt,
+        b"sound: a trap flag of 1",
+        parts::with_op(AT_JUMP, with_small(8, 1)),
+    )?;
+    refused::whole(
         rt,
         b"31 a clause of no kind",
-        AT_CLAUSE,
-        with_small(11, LAST_KIND + 1),
+        parts::with_op(AT_CLAUSE, with_small(11, LAST_KIND + 1)),
     )?;
-    holds::with_op(
+    holds::whole(
         rt,
         b"sound: a clause of the last kind",
-        AT_CLAUSE,
-        with_small(11, LAST_KIND),
+        parts::with_op(AT_CLAUSE, with_small(11, LAST_KIND)),
     )
 }
 
 // A recv has 1 to 8 clauses.
 fn receives(rt: &impl Print) -> io::Result<()> {
-    refused::with_op(rt, b"31 a recv of no clauses", AT_JUMP, with_small(10, 0))?;
+    refused::whole(
+        rt,
+        b"31 a recv of no clauses",
+        parts::with_op(AT_JUMP, with_small(10, 0)),
+    )?;
     refused::whole(rt, b"31 a recv of nine clauses", nine_clauses())?;
     holds::whole(rt, b"sound: a recv of eight clauses", eight_clauses())
 }
@@ -184,103 +198,140 @@ fn nine_clauses() -> Node {
 
 // A spawn names a behaviour of the node and a process number.
 fn spawns(rt: &impl Print) -> io::Result<()> {
-    refused::with_op(rt, b"31 a spawn of behaviour 0", AT_JUMP, spawn(0, 1))?;
-    refused::with_op(rt, b"31 a spawn of behaviour 2", AT_JUMP, spawn(2, 1))?;
-    refused::with_op(rt, b"31 a spawn of process 0", AT_JUMP, spawn(1, 0))?;
-    refused::with_op(rt, b"31 a spawn of process 17", AT_JUMP, spawn(1, 17))?;
-    holds::with_op(rt, b"sound: a spawn of process 16", AT_JUMP, spawn(1, 16))
+    refused::whole(
+        rt,
+        b"31 a spawn of behaviour 0",
+        parts::with_op(AT_JUMP, spawn(0, 1)),
+    )?;
+    refused::whole(
+        rt,
+        b"31 a spawn of behaviour 2",
+        parts::with_op(AT_JUMP, spawn(2, 1)),
+    )?;
+    refused::whole(
+        rt,
+        b"31 a spawn of process 0",
+        parts::with_op(AT_JUMP, spawn(1, 0)),
+    )?;
+    refused::whole(
+        rt,
+        b"31 a spawn of process 17",
+        parts::with_op(AT_JUMP, spawn(1, 17)),
+    )?;
+    holds::whole(
+        rt,
+        b"sound: a spawn of process 16",
+        parts::with_op(AT_JUMP, spawn(1, 16)),
+    )
 }
 
 // A target place is 0 to N.
 fn targets(rt: &impl Print) -> io::Result<()> {
-    refused::with_op(rt, b"31 a jump past the end", AT_JUMP, with_target(12, 4))?;
-    holds::with_op(rt, b"sound: a jump to the end", AT_JUMP, with_target(12, 3))?;
-    refused::with_op(
+    refused::whole(
+        rt,
+        b"31 a jump past the end",
+        parts::with_op(AT_JUMP, with_target(12, 4)),
+    )?;
+    holds::whole(
+        rt,
+        b"sound: a jump to the end",
+        parts::with_op(AT_JUMP, with_target(12, 3)),
+    )?;
+    refused::whole(
         rt,
         b"31 a clause that leads past the end",
-        AT_CLAUSE,
-        with_target(11, 4),
+        parts::with_op(AT_CLAUSE, with_target(11, 4)),
     )?;
-    holds::with_op(
+    holds::whole(
         rt,
         b"sound: a clause that leads to the end",
-        AT_CLAUSE,
-        with_target(11, 3),
+        parts::with_op(AT_CLAUSE, with_target(11, 3)),
     )
 }
 
 fn other_targets(rt: &impl Print) -> io::Result<()> {
-    refused::with_op(rt, b"31 a same past the end", AT_JUMP, with_target(13, 4))?;
-    refused::with_op(rt, b"31 a less past the end", AT_JUMP, with_target(14, 4))?;
-    refused::with_op(rt, b"31 a same to a clause", AT_JUMP, with_target(13, 1))?;
-    refused::with_op(rt, b"31 a less to a clause", AT_JUMP, with_target(14, 1))?;
-    refused::with_op(
+    refused::whole(
+        rt,
+        b"31 a same past the end",
+        parts::with_op(AT_JUMP, with_target(13, 4)),
+    )?;
+    refused::whole(
+        rt,
+        b"31 a less past the end",
+        parts::with_op(AT_JUMP, with_target(14, 4)),
+    )?;
+    refused::whole(
+        rt,
+        b"31 a same to a clause",
+        parts::with_op(AT_JUMP, with_target(13, 1)),
+    )?;
+    refused::whole(
+        rt,
+        b"31 a less to a clause",
+        parts::with_op(AT_JUMP, with_target(14, 1)),
+    )?;
+    refused::whole(
         rt,
         b"31 a clause that leads to a clause",
-        AT_CLAUSE,
-        with_target(11, 1),
+        parts::with_op(AT_CLAUSE, with_target(11, 1)),
     )
 }
 
 // A process number as an operand is 1 to 16.
 fn values(rt: &impl Print) -> io::Result<()> {
-    refused::with_op(
+    refused::whole(
         rt,
         b"31 a set to p0",
-        AT_JUMP,
-        with_value(0, 0, parts::pid(0)),
+        parts::with_op(AT_JUMP, with_value(0, 0, parts::pid(0))),
     )?;
-    refused::with_op(
+    refused::whole(
         rt,
         b"31 a set to p17",
-        AT_JUMP,
-        with_value(0, 0, parts::pid(17)),
+        parts::with_op(AT_JUMP, with_value(0, 0, parts::pid(17))),
     )?;
-    holds::with_op(
+    holds::whole(
         rt,
         b"sound: a set to p16",
-        AT_JUMP,
-        with_value(0, 0, parts::pid(16)),
+        parts::with_op(AT_JUMP, with_value(0, 0, parts::pid(16))),
     )?;
-    refused::with_op(
+    refused::whole(
         rt,
         b"31 a same with p17",
-        AT_JUMP,
-        with_value(13, 0, parts::pid(17)),
+        parts::with_op(AT_JUMP, with_value(13, 0, parts::pid(17))),
     )?;
-    refused::with_op(
+    refused::whole(
         rt,
         b"31 a clause of p17",
-        AT_CLAUSE,
-        with_value(11, EXACT, parts::pid(17)),
+        parts::with_op(AT_CLAUSE, with_value(11, EXACT, parts::pid(17))),
     )?;
-    holds::with_op(
+    holds::whole(
         rt,
         b"sound: a clause of p16",
-        AT_CLAUSE,
-        with_value(11, EXACT, parts::pid(16)),
+        parts::with_op(AT_CLAUSE, with_value(11, EXACT, parts::pid(16))),
     )
 }
 
 // A clause belongs to a recv.
 fn clauses(rt: &impl Print) -> io::Result<()> {
-    refused::with_op(rt, b"31 a stray clause", AT_JUMP, plain(11))?;
-    refused::with_op(rt, b"31 a recv before the end", AT_JUMP, with_small(10, 1))
+    refused::whole(rt, b"31 a stray clause", parts::with_op(AT_JUMP, plain(11)))?;
+    refused::whole(
+        rt,
+        b"31 a recv before the end",
+        parts::with_op(AT_JUMP, with_small(10, 1)),
+    )
 }
 
 // What an op does not have as an operand is not looked at, nor a behaviour past the count.
 fn unread(rt: &impl Print) -> io::Result<()> {
-    holds::with_op(
+    holds::whole(
         rt,
         b"sound: a jump with r200",
-        AT_JUMP,
-        with_registers(12, 200, 200),
+        parts::with_op(AT_JUMP, with_registers(12, 200, 200)),
     )?;
-    holds::with_op(
+    holds::whole(
         rt,
         b"sound: a clause of any kind, with p17",
-        AT_CLAUSE,
-        with_value(11, ANY, parts::pid(17)),
+        parts::with_op(AT_CLAUSE, with_value(11, ANY, parts::pid(17))),
     )?;
     holds::whole(rt, b"sound: a length past the count", with_unread_length())
 }

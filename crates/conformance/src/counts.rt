@@ -2,12 +2,11 @@
 // mailboxes, and what is asked past the arrays; and what is told of nodes that are not sound and of processes that are at no recv.
 use super::parts::{AT_CLAUSE, AT_JUMP};
 use super::{codes, parts, show, unsound};
-use consult::Consulted;
 use node::{
     ANY, ATOM, CLAUSE, DOWN, EXACT, INT, Message, NOTE, Node, Op, PID, Process, ProcessNumber,
     RECV, Slot, Value,
 };
-use receive::{Found, Searched};
+use receive::{NoFit, Searched};
 use std::io;
 
 // The largest number.
@@ -45,9 +44,9 @@ pub(crate) fn consulted(rt: &impl Print, n: Node, i: usize) -> io::Result<()> {
 fn count(rt: &impl Print, n: Node, i: usize) -> io::Result<()> {
     let c = consult::consultation(n, i);
     match c {
-        Consulted::Unsound => rt.write_all(b"unsound"),
-        Consulted::Elsewhere => rt.write_all(b"elsewhere"),
-        Consulted::Clauses(k) => rt.print(k as u64),
+        Err(_) => rt.write_all(b"unsound"),
+        Ok(None) => rt.write_all(b"elsewhere"),
+        Ok(Some(k)) => rt.print(k as u64),
     }
 }
 
@@ -56,9 +55,9 @@ fn answered(rt: &impl Print, s: Searched) -> io::Result<()> {
     let clauses = s.consulted as u64;
     let found = s.found;
     match found {
-        Found::Silent => show::one(rt, b"silent=", clauses),
-        Found::Unfit => show::one(rt, b"unfit=", clauses),
-        Found::Fit(k, _, _) => show::two(rt, b"fit=", k as u64, clauses),
+        Err(NoFit::Silent) => show::one(rt, b"silent=", clauses),
+        Err(NoFit::Unfit) => show::one(rt, b"unfit=", clauses),
+        Ok(fit) => show::two(rt, b"fit=", fit.index as u64, clauses),
     }
 }
 

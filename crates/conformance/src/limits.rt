@@ -20,23 +20,43 @@ pub(crate) fn all(rt: &impl Print) -> io::Result<()> {
 }
 
 fn places(rt: &impl Print) -> io::Result<()> {
-    holds::with_process(
+    holds::whole(
         rt,
         b"sound: a place at the end",
-        parts::first_process().moved(3),
+        parts::with_process(parts::first_process().moved(3)),
     )?;
-    refused::with_process(rt, b"31 behaviour 0", parts::of_behaviour(0))
+    refused::whole(
+        rt,
+        b"31 behaviour 0",
+        parts::with_process(parts::of_behaviour(0)),
+    )
 }
 
 fn registers(rt: &impl Print) -> io::Result<()> {
-    refused::with_process(rt, b"31 r0 with p17", parts::with_register(0, 17))?;
-    refused::with_process(rt, b"31 r1 with p17", parts::with_register(1, 17))?;
-    refused::with_process(rt, b"31 r3 with p17", parts::with_register(3, 17))?;
-    holds::with_process(rt, b"sound: a register with p1", parts::with_register(2, 1))?;
-    holds::with_process(
+    refused::whole(
+        rt,
+        b"31 r0 with p17",
+        parts::with_process(parts::with_register(0, 17)),
+    )?;
+    refused::whole(
+        rt,
+        b"31 r1 with p17",
+        parts::with_process(parts::with_register(1, 17)),
+    )?;
+    refused::whole(
+        rt,
+        b"31 r3 with p17",
+        parts::with_process(parts::with_register(3, 17)),
+    )?;
+    holds::whole(
+        rt,
+        b"sound: a register with p1",
+        parts::with_process(parts::with_register(2, 1)),
+    )?;
+    holds::whole(
         rt,
         b"sound: a register with p16",
-        parts::with_register(2, 16),
+        parts::with_process(parts::with_register(2, 16)),
     )
 }
 
@@ -53,8 +73,16 @@ fn with_last(number: u8) -> Node {
 }
 
 fn mailboxes(rt: &impl Print) -> io::Result<()> {
-    refused::with_message(rt, b"31 a message p0", Message::Plain(parts::pid(0)))?;
-    holds::with_message(rt, b"sound: a message p16", Message::Plain(parts::pid(16)))?;
+    refused::whole(
+        rt,
+        b"31 a message p0",
+        parts::holding(Message::Plain(parts::pid(0))),
+    )?;
+    holds::whole(
+        rt,
+        b"sound: a message p16",
+        parts::holding(Message::Plain(parts::pid(16))),
+    )?;
     refused::whole(rt, b"31 the last of sixteen messages", full(17))?;
     holds::whole(rt, b"sound: sixteen messages", full(16))
 }
@@ -64,20 +92,20 @@ fn full(last: u8) -> Node {
 }
 
 fn notes(rt: &impl Print) -> io::Result<()> {
-    refused::with_message(
+    refused::whole(
         rt,
         b"31 a note from 17",
-        Message::Note(ProcessNumber(17), Value::KILL),
+        parts::holding(Message::Note(ProcessNumber(17), Value::KILL)),
     )?;
-    refused::with_message(
+    refused::whole(
         rt,
         b"31 a note of p17",
-        Message::Note(ProcessNumber(1), parts::pid(17)),
+        parts::holding(Message::Note(ProcessNumber(1), parts::pid(17))),
     )?;
-    holds::with_message(
+    holds::whole(
         rt,
         b"sound: a note from 16 of p16",
-        Message::Note(ProcessNumber(16), parts::pid(16)),
+        parts::holding(Message::Note(ProcessNumber(16), parts::pid(16))),
     )
 }
 
@@ -87,75 +115,71 @@ fn rows(rt: &impl Print) -> io::Result<()> {
         b"sound: four signals in flight",
         parts::with_signals(parts::started(), FIRST_TO_ITSELF, 4),
     )?;
-    refused::with_signal(
+    refused::whole(
         rt,
         b"31 a signal with p0",
-        FIRST_TO_ITSELF,
-        Signal::Msg(parts::pid(0)),
+        parts::in_flight(FIRST_TO_ITSELF, Signal::Msg(parts::pid(0))),
     )?;
-    holds::with_signal(
+    holds::whole(
         rt,
         b"sound: a signal with p16",
-        FIRST_TO_ITSELF,
-        Signal::Msg(parts::pid(16)),
+        parts::in_flight(FIRST_TO_ITSELF, Signal::Msg(parts::pid(16))),
     )
 }
 
 fn exits(rt: &impl Print) -> io::Result<()> {
-    refused::with_signal(
+    refused::whole(
         rt,
         b"31 an exit signal with p17",
-        FIRST_TO_ITSELF,
-        Signal::Exit(parts::pid(17), false),
+        parts::in_flight(FIRST_TO_ITSELF, Signal::Exit(parts::pid(17), false)),
     )?;
-    holds::with_signal(
+    holds::whole(
         rt,
         b"sound: an exit signal with p16",
-        FIRST_TO_ITSELF,
-        Signal::Exit(parts::pid(16), false),
+        parts::in_flight(FIRST_TO_ITSELF, Signal::Exit(parts::pid(16), false)),
     )
 }
 
 // The row from 1 to 2, from 2 to 2, and the last of all.
 fn others(rt: &impl Print) -> io::Result<()> {
-    holds::with_signal(
+    holds::whole(
         rt,
         b"sound: an unlink in flight to another",
-        FIRST_TO_SECOND,
-        Signal::Unlink,
+        parts::in_flight(FIRST_TO_SECOND, Signal::Unlink),
     )?;
-    refused::with_signal(
+    refused::whole(
         rt,
         b"31 a link in flight from 2 to 2",
-        SECOND_TO_ITSELF,
-        Signal::Link,
+        parts::in_flight(SECOND_TO_ITSELF, Signal::Link),
     )?;
-    refused::with_signal(
+    refused::whole(
         rt,
         b"31 the last row with p17",
-        LAST_TO_ITSELF,
-        Signal::Msg(parts::pid(17)),
+        parts::in_flight(LAST_TO_ITSELF, Signal::Msg(parts::pid(17))),
     )?;
-    holds::with_signal(
+    holds::whole(
         rt,
         b"sound: the last row with p16",
-        LAST_TO_ITSELF,
-        Signal::Msg(parts::pid(16)),
+        parts::in_flight(LAST_TO_ITSELF, Signal::Msg(parts::pid(16))),
     )
 }
 
 // No live and no closing process links itself.
 fn links(rt: &impl Print) -> io::Result<()> {
-    holds::with_process(rt, b"sound: a link to another", parts::linked(2))?;
-    refused::with_process(
+    holds::whole(
+        rt,
+        b"sound: a link to another",
+        parts::with_process(parts::linked(2)),
+    )?;
+    refused::whole(
         rt,
         b"31 a closing process that links itself",
-        parts::linked(1).ended(Value::NORMAL),
+        parts::with_process(parts::linked(1).ended(Value::NORMAL)),
     )?;
-    holds::with_process(
+    holds::whole(
         rt,
         b"sound: a closing process that links another",
-        parts::linked(2).ended(Value::NORMAL),
+        parts::with_process(parts::linked(2).ended(Value::NORMAL)),
     )
 }
 
@@ -164,31 +188,31 @@ fn ended(number: u8) -> Process {
 }
 
 fn closing(rt: &impl Print) -> io::Result<()> {
-    refused::with_process(rt, b"31 a reason p0", ended(0))?;
-    refused::with_process(rt, b"31 a reason p17", ended(17))?;
-    holds::with_process(rt, b"sound: a reason p16", ended(16))
+    refused::whole(rt, b"31 a reason p0", parts::with_process(ended(0)))?;
+    refused::whole(rt, b"31 a reason p17", parts::with_process(ended(17)))?;
+    holds::whole(rt, b"sound: a reason p16", parts::with_process(ended(16)))
 }
 
 // A gone process holds nothing.
 fn unheld(rt: &impl Print) -> io::Result<()> {
-    holds::with_process(
+    holds::whole(
         rt,
         b"sound: a gone process that links itself",
-        parts::linked(1).gone(),
+        parts::with_process(parts::linked(1).gone()),
     )?;
-    holds::with_process(
+    holds::whole(
         rt,
         b"sound: a gone process with p17",
-        ended(17).with_register(2, parts::pid(17)).gone(),
+        parts::with_process(ended(17).with_register(2, parts::pid(17)).gone()),
     )
 }
 
 // A closing process holds a reason and links: no register, no place, no behaviour, no mail.
 fn unheld_closing(rt: &impl Print) -> io::Result<()> {
-    holds::with_process(
+    holds::whole(
         rt,
         b"sound: a closing process with p17",
-        ended(16).with_register(2, parts::pid(17)).moved(200),
+        parts::with_process(ended(16).with_register(2, parts::pid(17)).moved(200)),
     )?;
     holds::whole(
         rt,

@@ -67,7 +67,7 @@ fn list_in(rt: &impl Print, name: &[u8], n: Node, out: &mut [u8], room: usize) -
 fn list_part(rt: &impl Print, name: &[u8], n: Node, out: &mut [u8]) -> io::Result<()> {
     let told = listing::list(n, out);
     rt.write_all(name)?;
-    show::two(rt, b" ", told.number as u64, told.length as u64)?;
+    show::written(rt, b" ", told)?;
     rt.write_all(out)?;
     rt.write_all(b"|\n")
 }

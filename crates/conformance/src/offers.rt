@@ -1,6 +1,5 @@
 // Suggestions: the first step that would be accepted, in the order of request M-105, and none.
 use super::{calls, parts, show};
-use engine::Suggestion;
 use node::{Node, Step};
 use std::io;
 
@@ -341,12 +340,12 @@ fn suggested(rt: &impl Print, name: &[u8], plan: &[u8], steps: &[u8]) -> io::Res
 pub(crate) fn suggest(rt: &impl Print, n: Node) -> io::Result<()> {
     let s = engine::suggest(n);
     match s {
-        Suggestion::Unsound => rt.write_all(b"31\n"),
-        Suggestion::Next(step) => {
+        Err(_) => rt.write_all(b"31\n"),
+        Ok(Some(step)) => {
             named(rt, step)?;
             take(rt, n, step)
         }
-        Suggestion::Nothing => rt.write_all(b"none\n"),
+        Ok(None) => rt.write_all(b"none\n"),
     }
 }
 
@@ -364,6 +363,5 @@ fn named(rt: &impl Print, s: Step) -> io::Result<()> {
 }
 
 fn take(rt: &impl Print, n: Node, s: Step) -> io::Result<()> {
-    let r = engine::step(n, s);
-    show::one(rt, b"step=", r.refusal as u64)
+    show::stepped(rt, engine::step(n, s))
 }

@@ -77,6 +77,16 @@ pub(crate) fn with_signal(mut n: Node, row: u8, x: Signal) -> Node {
     n
 }
 
+// The started node with one message in the mailbox of process 1.
+pub(crate) fn holding(m: Message) -> Node {
+    with_message(started(), 0, m)
+}
+
+// The started node with one signal in a row.
+pub(crate) fn in_flight(row: u8, x: Signal) -> Node {
+    with_signal(started(), row, x)
+}
+
 // A node whose process 1 stands past the end of its behaviour.
 pub(crate) fn past_the_end() -> Node {
     with_process(first_process().moved(4))

@@ -1,6 +1,7 @@
 // Plays of step records, and plays with the listing: the order of 31, 30, 32 and 20.
 use super::calls::counting;
 use super::{parts, show};
+use controller::PlayedListed;
 use node::Node;
 use std::io;
 
@@ -101,10 +102,18 @@ fn counted(rt: &impl Print, name: &[u8], numbers: &[u32], out: &mut [u8]) -> io:
     told(rt, counting(), numbers, out)
 }
 
-// What a play with the listing tells, its listing, and the node that it hands out.
+// What a play with the listing tells, its listing, and the node that it hands out. Of a refusal nothing is played, and the node is as it was.
 fn told(rt: &impl Print, n: Node, numbers: &[u32], out: &mut [u8]) -> io::Result<()> {
-    let r = controller::play_and_list(n, numbers, out);
-    show::two(rt, b"played=", r.accepted as u64, r.refusal as u64)?;
+    let r = match controller::play_and_list(n, numbers, out) {
+        Ok(played) => played,
+        Err(refusal) => PlayedListed {
+            accepted: 0,
+            refusal: Some(refusal),
+            length: 0,
+            node: n,
+        },
+    };
+    show::two(rt, b"played=", r.accepted as u64, show::number(r.refusal))?;
     show::one(rt, b"length=", r.length as u64)?;
     show::write_first(rt, out, r.length)?;
     show::listed(rt, r.node)

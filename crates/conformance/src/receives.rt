@@ -94,7 +94,7 @@ fn with_fit(n: Node) -> Node {
 }
 
 fn continued(rt: &impl Print, r: Played) -> io::Result<()> {
-    show::two(rt, b"play=", r.accepted as u64, r.refusal as u64)?;
+    show::two(rt, b"play=", r.accepted as u64, show::number(r.refusal))?;
     let numbers = [65794u32, 256];
     show::played(rt, engine::play(r.node, &numbers))
 }

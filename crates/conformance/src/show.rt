@@ -1,12 +1,12 @@
 // How a case is reached and printed.
 use engine::Played;
-use node::Node;
+use node::{Node, Refusal};
 use std::io;
 
 // What a play tells, and the listing.
 pub(crate) fn played(rt: &impl Print, r: Played) -> io::Result<()> {
     one(rt, b"accepted=", r.accepted as u64)?;
-    one(rt, b"refused=", r.refusal as u64)?;
+    one(rt, b"refused=", number(r.refusal))?;
     listed(rt, r.node)
 }
 
@@ -25,30 +25,47 @@ pub(crate) fn timeout(rt: &impl Print, n: Node) -> io::Result<()> {
 // What a play tells, in a line.
 pub(crate) fn told(rt: &impl Print, n: Node, numbers: &[u32]) -> io::Result<()> {
     let r = engine::play(n, numbers);
-    two(rt, b"play=", r.accepted as u64, r.refusal as u64)
+    two(rt, b"play=", r.accepted as u64, number(r.refusal))
+}
+
+// What a step tells: 0, or the refusal's number.
+pub(crate) fn stepped(rt: &impl Print, told: Result<Node, Refusal>) -> io::Result<()> {
+    one(rt, b"step=", number(told.err()))
+}
+
+// The number that a refusal is told by, 0 where there is none.
+pub(crate) fn number(told: Option<Refusal>) -> u64 {
+    match told {
+        Some(refusal) => refusal.number() as u64,
+        None => 0,
+    }
 }
 
 // The node that a plan and steps lead to.
 pub(crate) fn reached(plan: &[u8], steps: &[u8]) -> Node {
     let r = plan::load(plan);
-    let s = schedule::read(steps);
-    let numbers = s.steps;
-    let p = play_of(r.node, &numbers, s.count);
-    p.node
+    match schedule::read(steps) {
+        Ok(schedule) => engine::play(r.node, schedule.numbers()).node,
+        Err(_) => engine::play(r.node, &[]).node,
+    }
 }
 
 // The listing of a node, or `list=` with its refusal.
 pub(crate) fn listed(rt: &impl Print, n: Node) -> io::Result<()> {
     let mut out = [0u8; 40000];
-    listed_in(rt, n, &mut out)
+    let told = listing::list(n, &mut out);
+    match told {
+        Ok(length) => write_first(rt, &out, length),
+        Err(_) => written(rt, b"list=", told),
+    }
 }
 
-fn listed_in(rt: &impl Print, n: Node, out: &mut [u8]) -> io::Result<()> {
-    let told = listing::list(n, out);
-    if told.number != 0 {
-        return two(rt, b"list=", told.number as u64, told.length as u64);
+// What a writer tells: 0 and the length, or the refusal's number and 0.
+pub(crate) fn written(rt: &impl Print, key: &[u8], told: Result<usize, Refusal>) -> io::Result<()> {
+    match told {
+        Ok(length) => two(rt, key, 0, length as u64),
+        Err(refusal) => two(rt, key, refusal.number() as u64, 0),
     }
-    write_first(rt, out, told.length)
 }
 
 // The first bytes of a buffer; nothing where it has not so many.
@@ -57,18 +74,6 @@ pub(crate) fn write_first(rt: &impl Print, out: &[u8], length: usize) -> io::Res
         rt.write_all(&out[..length])?;
     }
     Ok(())
-}
-
-fn play_of(n: Node, numbers: &[u32; 4096], count: usize) -> Played {
-    play_first(n, numbers, count)
-}
-
-// A play of the first `count` numbers; of all where there are not so many.
-fn play_first(n: Node, numbers: &[u32], count: usize) -> Played {
-    if count <= numbers.len() {
-        return engine::play(n, &numbers[..count]);
-    }
-    engine::play(n, numbers)
 }
 
 // The name of a case.

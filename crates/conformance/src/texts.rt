@@ -1,7 +1,7 @@
 // Texts at their limits: 16,384 bytes of plan, 61,440 bytes and 4,096 lines of steps; and the node of a refused load.
 use super::show;
 use std::io;
-use text::{put_byte, put_bytes};
+use text::put_bytes;
 
 pub(crate) fn all(rt: &impl Print) -> io::Result<()> {
     blank(rt)?;
@@ -31,131 +31,116 @@ fn blank(rt: &impl Print) -> io::Result<()> {
 // One byte above the limit is 10 with line 0; a text at the limit is read.
 fn plan_bytes(rt: &impl Print) -> io::Result<()> {
     let text = [b'x'; 16385];
-    plan_first(rt, b"16,384 bytes x", &text, 16384)?;
-    plan_first(rt, b"16,385 bytes x", &text, 16385)
+    plan(rt, b"16,384 bytes x", first(&text, 16384))?;
+    plan(rt, b"16,385 bytes x", &text)
 }
 
 // A number that fills the text to its last byte has a form, so it is out of range (12) and not malformed.
 fn plan_number(rt: &impl Print) -> io::Result<()> {
     let mut text = [b'9'; 16385];
-    plan_number_in(rt, &mut text)
-}
-
-fn plan_number_in(rt: &impl Print, text: &mut [u8]) -> io::Result<()> {
-    put_bytes(text, 0, b"plan=1\nbehaviours=");
-    put_byte(text, 16383, b'\n');
-    plan_first(rt, b"16,384 bytes with a number", text, 16384)?;
-    put_byte(text, 16383, b'9');
-    put_byte(text, 16384, b'\n');
-    plan_first(rt, b"16,385 bytes with a number", text, 16385)
+    put_bytes(&mut text, 0, b"plan=1\nbehaviours=");
+    text[16383] = b'\n';
+    plan(rt, b"16,384 bytes with a number", first(&text, 16384))?;
+    text[16383] = b'9';
+    text[16384] = b'\n';
+    plan(rt, b"16,385 bytes with a number", &text)
 }
 
 // A whole plan and empty lines up to the limit: the first line behind the last start is told.
 fn plan_surplus(rt: &impl Print) -> io::Result<()> {
     let mut text = [b'\n'; 16385];
-    plan_surplus_in(rt, &mut text)
-}
-
-fn plan_surplus_in(rt: &impl Print, text: &mut [u8]) -> io::Result<()> {
     let e = put_bytes(
-        text,
+        &mut text,
         0,
         b"plan=1\nbehaviours=1\ncode=1\nop=stop,0\nstarts=1\nstart=1,1\n",
     );
-    plan_first(rt, b"a plan", text, e)?;
-    plan_first(rt, b"a plan and empty lines, 16,384 bytes", text, 16384)?;
-    plan_first(rt, b"a plan and empty lines, 16,385 bytes", text, 16385)
+    plan(rt, b"a plan", first(&text, e))?;
+    plan(
+        rt,
+        b"a plan and empty lines, 16,384 bytes",
+        first(&text, 16384),
+    )?;
+    plan(rt, b"a plan and empty lines, 16,385 bytes", &text)
 }
 
 // 61,440 empty lines are within the limit, and the first is malformed; one byte more is 32.
 fn newlines(rt: &impl Print) -> io::Result<()> {
     let text = [b'\n'; 61441];
-    steps_first(rt, b"61,440 bytes 10", &text, 61440)?;
-    steps_first(rt, b"61,441 bytes 10", &text, 61441)
+    steps(rt, b"61,440 bytes 10", first(&text, 61440))?;
+    steps(rt, b"61,441 bytes 10", &text)
 }
 
 // 4,096 lines are steps; 4,097 are 32, unless one of them, the last here, is malformed.
 fn lines(rt: &impl Print) -> io::Result<()> {
     let mut text = [b'x'; 24588];
-    lines_in(rt, &mut text)
-}
-
-fn lines_in(rt: &impl Print, text: &mut [u8]) -> io::Result<()> {
-    repeated(text, 0, b"run=1\n", 4097);
-    steps_first(rt, b"4,096 lines", text, 24576)?;
-    steps_first(rt, b"4,097 lines", text, 24582)?;
-    steps_first(rt, b"4,097 lines, the last without its end", text, 24581)?;
-    steps_first(rt, b"4,097 lines and an x", text, 24583)?;
-    put_byte(text, 24576, b'R');
-    steps_first(rt, b"4,097 lines, the last malformed", text, 24582)?;
-    put_byte(text, 0, b'R');
-    steps_first(rt, b"4,097 lines, the first malformed", text, 24582)
+    repeated(&mut text, 0, b"run=1\n", 4097);
+    steps(rt, b"4,096 lines", first(&text, 24576))?;
+    steps(rt, b"4,097 lines", first(&text, 24582))?;
+    steps(
+        rt,
+        b"4,097 lines, the last without its end",
+        first(&text, 24581),
+    )?;
+    steps(rt, b"4,097 lines and an x", first(&text, 24583))?;
+    text[24576] = b'R';
+    steps(rt, b"4,097 lines, the last malformed", first(&text, 24582))?;
+    text[0] = b'R';
+    steps(rt, b"4,097 lines, the first malformed", first(&text, 24582))
 }
 
 // 4,096 of the longest lines have just 61,440 bytes.
 fn arrivals(rt: &impl Print) -> io::Result<()> {
     let mut text = [b'\n'; 61441];
-    arrivals_in(rt, &mut text)
-}
-
-fn arrivals_in(rt: &impl Print, text: &mut [u8]) -> io::Result<()> {
-    repeated(text, 0, b"arrive=255,255\n", 4096);
-    steps_first(rt, b"4,096 lines of 15 bytes", text, 61440)?;
-    steps_first(rt, b"4,096 lines of 15 bytes and a byte", text, 61441)?;
-    steps_first(rt, b"4,096 lines of 15 bytes less one byte", text, 61439)
+    repeated(&mut text, 0, b"arrive=255,255\n", 4096);
+    steps(rt, b"4,096 lines of 15 bytes", first(&text, 61440))?;
+    steps(rt, b"4,096 lines of 15 bytes and a byte", &text)?;
+    steps(
+        rt,
+        b"4,096 lines of 15 bytes less one byte",
+        first(&text, 61439),
+    )
 }
 
 // One line with a number up to the limit.
 fn digits(rt: &impl Print) -> io::Result<()> {
     let mut text = [b'1'; 61441];
-    digits_in(rt, &mut text)
-}
-
-fn digits_in(rt: &impl Print, text: &mut [u8]) -> io::Result<()> {
-    put_bytes(text, 0, b"run=");
-    put_byte(text, 61439, b'\n');
-    steps_first(rt, b"61,440 bytes with a number", text, 61440)
+    put_bytes(&mut text, 0, b"run=");
+    text[61439] = b'\n';
+    steps(rt, b"61,440 bytes with a number", first(&text, 61440))
 }
 
 // A text again and again, from a place of a buffer on; the place behind it.
 fn repeated(out: &mut [u8], at: usize, unit: &[u8], times: usize) -> usize {
     let mut e = at;
-    let mut k = 0;
-    while k < times {
+    for _ in 0..times {
         e = put_bytes(out, e, unit);
-        k += 1;
     }
     e
 }
 
-// The plan in the first bytes of a buffer.
-fn plan_first(rt: &impl Print, name: &[u8], text: &[u8], length: usize) -> io::Result<()> {
-    if length <= text.len() {
-        plan(rt, name, &text[..length])?;
-    }
-    Ok(())
+// The first bytes of a text; all where it has not so many.
+fn first(text: &[u8], length: usize) -> &[u8] {
+    &text[..length.min(text.len())]
 }
 
 // A plan, and what its load tells: the number and the line.
 fn plan(rt: &impl Print, name: &[u8], text: &[u8]) -> io::Result<()> {
-    let r = plan::load(text);
+    let (number, line) = match plan::load(text).refused {
+        Some(refused) => (refused.fault.number(), refused.line),
+        None => (0, 0),
+    };
     rt.write_all(name)?;
-    show::two(rt, b" ", r.number as u64, r.line as u64)
-}
-
-// The steps in the first bytes of a buffer.
-fn steps_first(rt: &impl Print, name: &[u8], text: &[u8], length: usize) -> io::Result<()> {
-    if length <= text.len() {
-        steps(rt, name, &text[..length])?;
-    }
-    Ok(())
+    show::two(rt, b" ", number as u64, line as u64)
 }
 
 // Steps, and what is told: the count of steps, the number and the line.
 fn steps(rt: &impl Print, name: &[u8], text: &[u8]) -> io::Result<()> {
-    let r = schedule::read(text);
+    let (count, number, line) = match schedule::read(text) {
+        Ok(schedule) => (schedule.numbers().len(), 0, 0),
+        Err(refused) => (0, refused.number(), refused.line()),
+    };
     rt.write_all(name)?;
     rt.write_all(b" ")?;
-    rt.print(r.count as u64)?;
-    show::two(rt, b" ", r.number as u64, r.line as u64)
+    rt.print(count as u64)?;
+    show::two(rt, b" ", number as u64, line as u64)
 }

@@ -18,17 +18,15 @@ fn after(target: u8) -> Op {
 
 // Directly behind the last clause of a recv, and nowhere else; no process stands at one.
 fn placed(rt: &impl Print) -> io::Result<()> {
-    holds::with_op(
+    holds::whole(
         rt,
         b"sound: an after behind the last clause",
-        AT_JUMP,
-        after(0),
+        parts::with_op(AT_JUMP, after(0)),
     )?;
-    refused::with_op(
+    refused::whole(
         rt,
         b"31 an after in the place of a clause",
-        AT_CLAUSE,
-        after(0),
+        parts::with_op(AT_CLAUSE, after(0)),
     )?;
     refused::whole(rt, b"31 a stray after", stray())?;
     refused::whole(rt, b"31 a second after", with_last(after(4)))?;
@@ -70,10 +68,26 @@ fn standing_on_it() -> Node {
 
 // Its own target is 0 to N, and on no part of a recv.
 fn targets(rt: &impl Print) -> io::Result<()> {
-    holds::with_op(rt, b"sound: an after to the end", AT_JUMP, after(3))?;
-    refused::with_op(rt, b"31 an after past the end", AT_JUMP, after(4))?;
-    refused::with_op(rt, b"31 an after to a clause", AT_JUMP, after(1))?;
-    refused::with_op(rt, b"31 an after to itself", AT_JUMP, after(2))
+    holds::whole(
+        rt,
+        b"sound: an after to the end",
+        parts::with_op(AT_JUMP, after(3)),
+    )?;
+    refused::whole(
+        rt,
+        b"31 an after past the end",
+        parts::with_op(AT_JUMP, after(4)),
+    )?;
+    refused::whole(
+        rt,
+        b"31 an after to a clause",
+        parts::with_op(AT_JUMP, after(1)),
+    )?;
+    refused::whole(
+        rt,
+        b"31 an after to itself",
+        parts::with_op(AT_JUMP, after(2)),
+    )
 }
 
 // No other target leads to one.

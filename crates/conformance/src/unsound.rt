@@ -41,45 +41,59 @@ pub(crate) fn with_length(length: u8) -> Node {
 
 // Behaviours pass the plan's rules.
 fn codes(rt: &impl Print) -> io::Result<()> {
-    refused::with_op(rt, b"31 an op that is none", AT_JUMP, codes::plain(19))?;
-    refused::with_op(
+    refused::whole(
+        rt,
+        b"31 an op that is none",
+        parts::with_op(AT_JUMP, codes::plain(19)),
+    )?;
+    refused::whole(
         rt,
         b"31 a recv without its clauses",
-        AT_RECV,
-        codes::with_small(10, 2),
+        parts::with_op(AT_RECV, codes::with_small(10, 2)),
     )?;
-    refused::with_op(
+    refused::whole(
         rt,
         b"31 a target place on a clause",
-        AT_JUMP,
-        codes::with_target(12, 1),
+        parts::with_op(AT_JUMP, codes::with_target(12, 1)),
     )
 }
 
 // A place is 0 to N and on no clause; the node has the behaviour.
 fn places(rt: &impl Print) -> io::Result<()> {
-    refused::with_process(
+    refused::whole(
         rt,
         b"31 a place past the end",
-        parts::first_process().moved(4),
+        parts::with_process(parts::first_process().moved(4)),
     )?;
-    refused::with_process(
+    refused::whole(
         rt,
         b"31 a place on a clause",
-        parts::first_process().moved(1),
+        parts::with_process(parts::first_process().moved(1)),
     )?;
-    refused::with_process(
+    refused::whole(
         rt,
         b"31 a behaviour number past the count",
-        parts::of_behaviour(2),
+        parts::with_process(parts::of_behaviour(2)),
     )
 }
 
 // A process number is 1 to 16, and no process links itself.
 fn registers(rt: &impl Print) -> io::Result<()> {
-    refused::with_process(rt, b"31 a register with p17", parts::with_register(2, 17))?;
-    refused::with_process(rt, b"31 a register with p0", parts::with_register(2, 0))?;
-    refused::with_process(rt, b"31 a link to itself", parts::linked(1))
+    refused::whole(
+        rt,
+        b"31 a register with p17",
+        parts::with_process(parts::with_register(2, 17)),
+    )?;
+    refused::whole(
+        rt,
+        b"31 a register with p0",
+        parts::with_process(parts::with_register(2, 0)),
+    )?;
+    refused::whole(
+        rt,
+        b"31 a link to itself",
+        parts::with_process(parts::linked(1)),
+    )
 }
 
 // A mailbox has at most 16 messages, each of sound numbers.
@@ -89,11 +103,15 @@ fn mailboxes(rt: &impl Print) -> io::Result<()> {
         b"31 seventeen messages",
         parts::with_messages(parts::started(), 17),
     )?;
-    refused::with_message(rt, b"31 a message p17", Message::Plain(parts::pid(17)))?;
-    refused::with_message(
+    refused::whole(
+        rt,
+        b"31 a message p17",
+        parts::holding(Message::Plain(parts::pid(17))),
+    )?;
+    refused::whole(
         rt,
         b"31 a note from 0",
-        Message::Note(ProcessNumber(0), Value::KILL),
+        parts::holding(Message::Note(ProcessNumber(0), Value::KILL)),
     )
 }
 
@@ -104,27 +122,24 @@ fn flights(rt: &impl Print) -> io::Result<()> {
         b"31 five signals in flight",
         parts::with_signals(parts::started(), FIRST_TO_ITSELF, 5),
     )?;
-    refused::with_signal(
+    refused::whole(
         rt,
         b"31 a signal with p17",
-        FIRST_TO_ITSELF,
-        Signal::Msg(parts::pid(17)),
+        parts::in_flight(FIRST_TO_ITSELF, Signal::Msg(parts::pid(17))),
     )
 }
 
 // No link and no unlink is in flight from a process to itself.
 fn flights_to_itself(rt: &impl Print) -> io::Result<()> {
-    refused::with_signal(
+    refused::whole(
         rt,
         b"31 a link in flight to itself",
-        FIRST_TO_ITSELF,
-        Signal::Link,
+        parts::in_flight(FIRST_TO_ITSELF, Signal::Link),
     )?;
-    refused::with_signal(
+    refused::whole(
         rt,
         b"31 an unlink in flight to itself",
-        FIRST_TO_ITSELF,
-        Signal::Unlink,
+        parts::in_flight(FIRST_TO_ITSELF, Signal::Unlink),
     )
 }
 
@@ -136,7 +151,7 @@ fn leaves(rt: &impl Print) -> io::Result<()> {
 }
 
 fn put_right(rt: &impl Print, r: Played) -> io::Result<()> {
-    show::two(rt, b"play=", r.accepted as u64, r.refusal as u64)?;
+    show::two(rt, b"play=", r.accepted as u64, show::number(r.refusal))?;
     let mut n = r.node;
     n.processes[0].place = 0;
     show::listed(rt, n)
@@ -155,22 +170,20 @@ fn first(rt: &impl Print) -> io::Result<()> {
 pub(crate) fn both_ways(rt: &impl Print, n: Node, numbers: &[u32]) -> io::Result<()> {
     show::told(rt, n, numbers)?;
     let s = steps::play_lent(n, numbers);
-    show::two(rt, b"lent=", s.accepted as u64, s.refusal as u64)
+    show::two(rt, b"lent=", s.accepted as u64, show::number(s.refusal))
 }
 
 // What a node may have in flight: its run is refused by 25, not by 31.
 fn sound_flights(rt: &impl Print) -> io::Result<()> {
-    holds::with_signal(
+    holds::whole(
         rt,
         b"sound: a link in flight to another",
-        FIRST_TO_SECOND,
-        Signal::Link,
+        parts::in_flight(FIRST_TO_SECOND, Signal::Link),
     )?;
-    holds::with_signal(
+    holds::whole(
         rt,
         b"sound: a linked exit in flight to itself",
-        FIRST_TO_ITSELF,
-        Signal::Exit(Value::KILL, true),
+        parts::in_flight(FIRST_TO_ITSELF, Signal::Exit(Value::KILL, true)),
     )
 }
 

@@ -21,84 +21,91 @@ fn watched(number: u8) -> Process {
 
 // No live process is in either of its own two sets.
 fn own_sets(rt: &impl Print) -> io::Result<()> {
-    refused::with_process(rt, b"31 a process that watches itself", watching(1))?;
-    holds::with_process(rt, b"sound: a process that watches another", watching(2))?;
-    refused::with_process(rt, b"31 a process that is its own watcher", watched(1))?;
-    holds::with_process(
+    refused::whole(
+        rt,
+        b"31 a process that watches itself",
+        parts::with_process(watching(1)),
+    )?;
+    holds::whole(
+        rt,
+        b"sound: a process that watches another",
+        parts::with_process(watching(2)),
+    )?;
+    refused::whole(
+        rt,
+        b"31 a process that is its own watcher",
+        parts::with_process(watched(1)),
+    )?;
+    holds::whole(
         rt,
         b"sound: a process with another for a watcher",
-        watched(2),
+        parts::with_process(watched(2)),
     )
 }
 
 // A closing process holds its watchers and no watches, a gone one neither: what a stage does not hold is not looked at.
 fn ended_sets(rt: &impl Print) -> io::Result<()> {
-    refused::with_process(
+    refused::whole(
         rt,
         b"31 a closing process that is its own watcher",
-        watched(1).ended(Value::NORMAL),
+        parts::with_process(watched(1).ended(Value::NORMAL)),
     )?;
-    holds::with_process(
+    holds::whole(
         rt,
         b"sound: a closing process that had watched itself",
-        watching(1).ended(Value::NORMAL),
+        parts::with_process(watching(1).ended(Value::NORMAL)),
     )?;
-    holds::with_process(
+    holds::whole(
         rt,
         b"sound: a gone process that was its own watcher",
-        watched(1).ended(Value::NORMAL).gone(),
+        parts::with_process(watched(1).ended(Value::NORMAL).gone()),
     )
 }
 
 // No monitor and no demonitor is in flight from a process to itself; a down may be.
 fn own_signals(rt: &impl Print) -> io::Result<()> {
-    refused::with_signal(
+    refused::whole(
         rt,
         b"31 a monitor in flight to itself",
-        FIRST_TO_ITSELF,
-        Signal::Monitor,
+        parts::in_flight(FIRST_TO_ITSELF, Signal::Monitor),
     )?;
-    refused::with_signal(
+    refused::whole(
         rt,
         b"31 a demonitor in flight to itself",
-        FIRST_TO_ITSELF,
-        Signal::Demonitor,
+        parts::in_flight(FIRST_TO_ITSELF, Signal::Demonitor),
     )?;
-    holds::with_signal(
+    holds::whole(
         rt,
         b"sound: a monitor in flight to another",
-        FIRST_TO_SECOND,
-        Signal::Monitor,
+        parts::in_flight(FIRST_TO_SECOND, Signal::Monitor),
     )?;
-    holds::with_signal(
+    holds::whole(
         rt,
         b"sound: a down in flight to itself",
-        FIRST_TO_ITSELF,
-        Signal::Down(Value::NOPROC),
+        parts::in_flight(FIRST_TO_ITSELF, Signal::Down(Value::NOPROC)),
     )
 }
 
 // The sender and the reason of a down keep their limits. A down that is sound is taken by the clause any.
 fn downs(rt: &impl Print) -> io::Result<()> {
-    refused::with_signal(
+    refused::whole(
         rt,
         b"31 a down in flight with p17",
-        FIRST_TO_SECOND,
-        Signal::Down(parts::pid(17)),
+        parts::in_flight(FIRST_TO_SECOND, Signal::Down(parts::pid(17))),
     )?;
-    refused::with_message(
+    refused::whole(
         rt,
         b"31 a down from 0",
-        Message::Down(ProcessNumber(0), Value::NOPROC),
+        parts::holding(Message::Down(ProcessNumber(0), Value::NOPROC)),
     )?;
-    refused::with_message(
+    refused::whole(
         rt,
         b"31 a down with p17",
-        Message::Down(ProcessNumber(1), parts::pid(17)),
+        parts::holding(Message::Down(ProcessNumber(1), parts::pid(17))),
     )?;
-    holds::with_message(
+    holds::whole(
         rt,
         b"sound: a down from 16 with p16",
-        Message::Down(ProcessNumber(16), parts::pid(16)),
+        parts::holding(Message::Down(ProcessNumber(16), parts::pid(16))),
     )
 }

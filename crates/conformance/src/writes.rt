@@ -206,7 +206,7 @@ fn write_part(
 ) -> io::Result<()> {
     let told = plan_writer::write_plan(b, s, out);
     rt.write_all(name)?;
-    show::two(rt, b" ", told.number as u64, told.length as u64)?;
+    show::written(rt, b" ", told)?;
     rt.write_all(out)?;
     rt.write_all(b"|\n")
 }

@@ -6,31 +6,25 @@
 --   consulted_bound            at most 128 clauses are consulted
 --   told_31, told_below, told_above, told_none, told_count   what is told, by the ways of the code
 use mathlib.Core.Bool.{Bool, true, false, So, cond, ◌&&◌, and-false}
-use mathlib.Core.List.{map}
 use mathlib.Core.Option.{none, some}
 use mathlib.Core.Path.{◌≡◌, refl, sym, ◌∙◌, ap}
 use Prim.Native.Nat.{ℕ, ◌+◌, ◌-◌, ◌*◌, ◌≤◌, ◌<◌}
 use native.Mathlib.Omega.{arith}
 use borrow.Author.Tests.{leb-true, lt-leb, ltb-true, ltb-false}
 use lib.Dec.{eqb, ltb}
-use lib.ListN.{length, get_or, take, drop, length-take, length-drop, get_or-eq_default}
-use lib.Seq.{get_or-take, get_or-drop, take-take, ext_get_or}
+use lib.ListN.{length, get_or, take, drop, length-take, get_or-eq_default}
 use Rattle.actions.specs.Places.{behaviour_at}
 use Rattle.decisions.proofs.Meanings.{Awaiting, awaiting}
 use Rattle.node.specs.declared.Node.{Node}
 use Rattle.node.specs.declared.Op.{Op}
 use Rattle.node.specs.declared.Process.{Process}
-use Rattle.node.specs.declared.Slot.{Slot}
 use Rattle.node.specs.declared.Stage.{Stage}
 use Rattle.node.specs.declared.Stage.TheVariants.{Unborn, Live, Closing, Gone}
 use Rattle.node.specs.Blocks.{block_of}
-use Rattle.node.specs.Mailboxes.{no_message, messages}
 use Rattle.node.specs.Nodes.{no_op, mail_shelf}
 use Rattle.node.specs.Ops.{recv_op}
 use Rattle.node.specs.Values.{is_number}
-use Rattle.node.proofs.Blocks.{whole as whole-block}
 use Rattle.node.proofs.Contents.{messages_length}
-use Rattle.node.proofs.Lists.{firsts_take}
 use Rattle.receive.specs.Found.{clauses_in, mail_in}
 use Rattle.receive.specs.Waiting.{awaits}
 use Rattle.rules.specs.Answers.{refused, done, not_sound}
@@ -44,7 +38,7 @@ use Rattle.rules.proofs.Consult.{few_consulted}
 use Rattle.rules.proofs.Living.{alive}
 use Rattle.rules.proofs.Paths.{recv_bounds}
 use Rattle.rules.proofs.Records.{number_bounds}
-use Rattle.turns.proofs.Turns.{place_at, Stands, stands_in, Clauses, clauses_in_lem}
+use Rattle.turns.proofs.Turns.{place_at, Stands, stands_in, Clauses, clauses_in_lem, clauses_lent, mail_lent}
 
 -- tests that are the same of a live process
 live_tests : (s : Stage) (a b c : Bool) → (s ≡ Live → (a && b) ≡ c) → (is_live s && a && b) ≡ (is_live s && c)
@@ -129,15 +123,7 @@ module _ (n : Node) (is : Sound n) (i : ℕ) where
       clauses = clauses_in_lem n whole i number there.live inside recv
 
       pub clauses_read : clauses_in n.ops (place_at n P + 1) O.small ≡ clauses_of n i
-      clauses_read =
-          let x = place_at n P + 1 in
-          let s = O.small in
-          let l : length (take s (drop x n.ops)) ≡ s = length-take s (drop x n.ops) ∙ rw (length-drop x n.ops, whole.sized.ops) (omega (arith, clauses.within)) in
-          ext_get_or no_op (take s (drop x n.ops)) (take s (drop (P.place + 1) (ops_of n i))) (l ∙ sym clauses.size)
-          (λ k h.
-          let g : k < s = rw l at h in
-          get_or-take s (drop x n.ops) k no_op g ∙ get_or-drop x n.ops k no_op ∙ clauses.read k (rw clauses.size g))
-          ∙ ap (λ (o : Op). take o.small (drop (P.place + 1) (ops_of n i))) (sym same)
+      clauses_read = clauses_lent n whole P clauses ∙ ap (λ (o : Op). take o.small (drop (P.place + 1) (ops_of n i))) (sym same)
 
       few_clauses : length (clauses_of n i) ≤ 8
       few_clauses =
@@ -149,14 +135,10 @@ module _ (n : Node) (is : Sound n) (i : ℕ) where
       few_messages = leb-true (length (mailbox n i)) 16 (alive (behaviours_of n) i P (mailbox n i) there.live (whole.processes i number)).mailed.few
 
       pub mail_read : mail_in n.slots (16 * (i - 1)) W ≡ mailbox n i
-      unfolding messages
       mail_read =
           let few : W ≤ 16 = rw (messages_length (block_of 16 (i - 1) (mail_shelf n))) at few_messages in
-          let box = drop (16 * (i - 1)) n.slots in
           let b = number_bounds i number in
-          let size : length (take 16 box) ≡ 16 =
-          whole-block 16 (i - 1) (mail_shelf n) (record { cells = rw whole.sized.mail.cells (omega (arith, b)); counts = rw whole.sized.mail.counts (omega (arith, b)) }) in
-          ap (map (λ (s : Slot). s.message)) (sym (firsts_take no_message W (take 16 box) (rw size few) ∙ take-take W 16 box few))
+          mail_lent n whole (i - 1) (omega (arith, b)) few
 
       pub consulted_bound : consulted (clauses_of n i) (mailbox n i) ≤ 128
       consulted_bound = at_most_128 few_consulted (clauses_of n i) (mailbox n i) few_clauses few_messages

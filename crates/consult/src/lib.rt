@@ -8,47 +8,33 @@ ghost use Rattle.consult.specs.Answers.{consulted_of};
 
 use actions::{behaviour_index, op_index};
 use node::Node;
+use soundness::NotSound;
 
-// How many clauses are consulted; Elsewhere where the process is not live at a recv; Unsound is refusal 31.
-#[derive(Clone, Copy)]
-pub enum Consulted {
-    Unsound,
-    Elsewhere,
-    Clauses(usize),
-}
-
-// How many clauses a search of the mailbox of process i consults.
-pub fn consultation(n: Node, i: usize) -> Consulted
+// How many clauses a search of the mailbox of process i consults; none where the process is not live at a recv.
+pub fn consultation(n: Node, i: usize) -> Result<Option<usize>, NotSound>
     ensures { consulted_of result ≡ consultation n i }
 {
     if soundness::sound(n) {
-        return of_sound(n, i);
+        return Ok(of_sound(n, i));
     }
-    Consulted::Unsound
+    Err(NotSound)
 }
 
 // The same of a sound node.
-fn of_sound(n: Node, i: usize) -> Consulted
+fn of_sound(n: Node, i: usize) -> Option<usize>
     requires { Sound n }
-    ensures { consulted_of result ≡ consultation n i }
+    ensures { consulted_of (Ok result) ≡ consultation n i }
 {
-    if i < 1 {
-        return Consulted::Elsewhere;
-    }
-    if 16 < i {
-        return Consulted::Elsewhere;
+    if i < 1 || 16 < i {
+        return None;
     }
     let k = i - 1;
     let p = n.processes[k];
-    let b = p.behaviour;
-    let x = op_index(b, p.place);
-    let w = behaviour_index(b);
+    let x = op_index(p.behaviour, p.place);
     let op = n.ops[x];
-    if receive::awaits(p, n.lens[w], op) {
-        let slots = n.slots;
-        let ops = n.ops;
-        let s = receive::search(slots, 16 * k, n.waiting[k], ops, x + 1, op.small);
-        return Consulted::Clauses(s.consulted);
+    if !receive::awaits(p, n.lens[behaviour_index(p.behaviour)], op) {
+        return None;
     }
-    Consulted::Elsewhere
+    let s = receive::search_in(&n.slots[16 * k..], n.waiting[k], &n.ops[x + 1..], op.small);
+    Some(s.consulted)
 }

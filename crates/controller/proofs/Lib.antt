@@ -1,4 +1,3 @@
-pub mod Room
 pub mod Laws
 pub mod Ramp
 pub mod Short

@@ -1,6 +1,6 @@
 -- How long the program's answers are at most, whatever its two texts are. Assumes nothing.
 --   program_short   what is printed has at most `longest_answer` bytes
---   program_told program_answered   so a buffer of that length takes it: `simulate` never tells 30 there
+--   program_told program_answered program_length   so a buffer of that length takes it: `simulate` never tells 30 there
 use mathlib.Core.Bool.{Bool, true, false, cond}
 use mathlib.Core.List.{List, ◌++◌}
 use mathlib.Core.Path.{◌≡◌, sym, ◌∙◌, ap}
@@ -8,24 +8,24 @@ use Prim.Native.Nat.{ℕ, ◌≤◌}
 use native.Mathlib.Omega.{arith}
 use lib.Dec.{eqb}
 use lib.ListN.{length, drop}
-use Rattle.listing.proofs.Laws.{told_fits}
+use Rattle.std.specs.Prelude.{Result}
+use Rattle.std.specs.Result.{result_unwrap_or}
+use Rattle.listing.proofs.Laws.{told_fits, told_length}
 use Rattle.listing.proofs.Listings.{listing_short}
-use Rattle.listing.specs.declared.Listed.{Listed}
-use Rattle.listing.specs.Answers.{told, shown}
+use Rattle.listing.specs.Answers.{Listed, listed_of, told, shown}
 use Rattle.listing_lines.proofs.Longest.{Within, ◌⊕◌, exactly, loosely, digits_within, number_line_within}
 use Rattle.node.specs.declared.Node.{Node}
+use Rattle.node.specs.declared.Refusal.{Refusal}
 use Rattle.node.specs.Texts.{bytes}
 use Rattle.plan.proofs.Refusals.{load_told}
 use Rattle.plan.proofs.Sound.{loaded_sound}
-use Rattle.plan.specs.declared.Loaded.{Loaded}
-use Rattle.plan.specs.Plans.{load_of}
+use Rattle.plan.specs.Plans.{Loaded, load_of}
 use Rattle.rules.proofs.Order.{sound_kept}
 use Rattle.rules.proofs.Refusals.{refusal_most, accepted_most}
 use Rattle.rules.specs.Nodes.{Sound}
 use Rattle.rules.specs.Steps.{Action, play}
 use Rattle.schedule.proofs.Told.{Low, read_told}
-use Rattle.schedule.specs.declared.Schedule.{Schedule}
-use Rattle.schedule.specs.Reading.{schedule_of}
+use Rattle.schedule.specs.Reading.{Schedule, schedule_of}
 use Rattle.controller.specs.Program.{load_key, steps_key, accepted_key, refused_key, refused_line, played_text, steps, after_load, program_text, longest_answer}
 
 refused_within : (key : List ℕ) (k line : ℕ) → length key ≤ 6 → k ≤ 99 → line ≤ 99999 → Within (refused_line key k line) longest_answer
@@ -71,3 +71,9 @@ module _ (plan steps : List ℕ) where
       let t = program_told old h in
       let e : x.length ≡ length (program_text plan steps) = ap (λ (y : Listed). y.length) (p.0 ∙ t.0) in
       (e, p.1 ∙ t.1 ∙ ap (λ (k : ℕ). program_text plan steps ++ drop k old) (sym e))
+
+  -- the same of the answer itself, whose length is taken
+  pub program_length : (old : List ℕ) (r : Result ℕ Refusal) {m : List ℕ} → longest_answer ≤ length old
+      → (listed_of r ≡ told old (program_text plan steps)) × (m ≡ shown old (program_text plan steps))
+      → (result_unwrap_or r 0 ≡ length (program_text plan steps)) × (m ≡ program_text plan steps ++ drop (result_unwrap_or r 0) old)
+  program_length old r h p = rw (told_length r) (program_answered old h p)

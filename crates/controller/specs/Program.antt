@@ -8,11 +8,9 @@ use Rattle.std.specs.Prelude.{cond, List, ◌++◌, map, ℕ, eqb, take}
 use Rattle.node.specs.Texts.{bytes}
 use Rattle.actions.specs.Numbers.{action_of}
 use Rattle.listing.specs.Listing.{listing_of}
-use Rattle.plan.specs.declared.Loaded.{Loaded}
-use Rattle.plan.specs.Plans.{load_of}
+use Rattle.plan.specs.Plans.{Loaded, load_of}
 use Rattle.rules.specs.Steps.{Action, Outcome, play}
-use Rattle.schedule.specs.declared.Schedule.{Schedule}
-use Rattle.schedule.specs.Reading.{schedule_of}
+use Rattle.schedule.specs.Reading.{Schedule, schedule_of}
 use Rattle.text.specs.Writing.{digits, number_line}
 
 abbrev pub load_key : List ℕ

@@ -1,134 +1,118 @@
 // The controller: a play and its listing in one call, and the program's bytes from a plan text and a steps text.
 #![tactic(auto)]
 
-ghost use Rattle.std.specs.Prelude.{map, ◌≡◌};
+ghost use Rattle.std.specs.Prelude.{is_err, map, ◌≡◌};
 ghost use Rattle.actions.specs.Numbers.{action_of};
 ghost use Rattle.engine.specs.Answers.{played_of};
-ghost use Rattle.listing.specs.Answers.{told, shown};
-ghost use Rattle.text.specs.Writing.{Wrote};
-ghost use Rattle.controller.specs.Calls.{simulated_of, played_listed, played_shown};
+ghost use Rattle.listing.specs.Answers.{listed_of, told, shown};
+ghost use Rattle.controller.specs.Calls.{played_listed, played_listed_of, nothing_played, played_shown};
 ghost use Rattle.controller.specs.Program.{refused_line, played_text, program_text};
 
 use engine::Played;
-use listing::put_listing;
-use node::{NOT_SOUND, Node, OUTPUT_SHORT};
+use listing::{Text, fill};
+use node::{Node, Refusal};
 use text::{put_byte, put_bytes, put_number, put_number_line};
 
-// What `play_and_list` tells: how many steps were accepted, the refusal or 0, the length of the listing, and the node then.
+// What `play_and_list` tells of a play: how many steps were accepted, the refusal that ended it, if one did, the length of the listing, and the
+// node then.
 #[derive(Clone, Copy)]
 pub struct PlayedListed {
     pub accepted: usize,
-    pub refusal: u8,
+    pub refusal: Option<Refusal>,
     pub length: usize,
     pub node: Node,
 }
 
-// What `simulate` tells: 30 and length 0, or 0 and the length of what it wrote.
-#[derive(Clone, Copy)]
-pub struct Simulated {
-    pub number: u8,
-    pub length: usize,
-}
-
 // A schedule played and the node listed: 31, then 30, with nothing played; then what `engine::play` tells, and the listing. Only a node
 // that is not sound is told 31 by a play.
-pub fn play_and_list(n: Node, numbers: &[u32], out: &mut [u8]) -> PlayedListed
-    ensures answer { result ≡ played_listed n (map action_of numbers.now) out.old }
+pub fn play_and_list(n: Node, numbers: &[u32], out: &mut [u8]) -> Result<PlayedListed, Refusal>
+    ensures answer { played_listed_of n result ≡ played_listed n (map action_of numbers.now) out.old }
+    ensures refused { is_err result ≡ nothing_played n (map action_of numbers.now) out.old }
     ensures buffer { out.new ≡ played_shown n (map action_of numbers.now) out.old }
 {
     let r = engine::play(n, numbers);
-    if r.refusal == NOT_SOUND {
-        return PlayedListed {
-            accepted: 0,
-            refusal: NOT_SOUND,
-            length: 0,
-            node: n,
-        };
+    if r.refusal == Some(Refusal::NotSound) {
+        return Err(Refusal::NotSound);
     }
-    let node = r.node;
-    let l = listing::list_sound(node, out);
-    if l.number != 0 {
-        return PlayedListed {
-            accepted: 0,
-            refusal: OUTPUT_SHORT,
-            length: 0,
-            node: n,
-        };
-    }
-    PlayedListed {
+    let length = listing::list_sound(r.node, out)?;
+    Ok(PlayedListed {
         accepted: r.accepted,
         refusal: r.refusal,
-        length: l.length,
-        node: node,
-    }
+        length,
+        node: r.node,
+    })
 }
 
-// What the program prints for a plan text and a steps text, in the first bytes of the buffer; or 30.
-pub fn simulate(plan: &[u8], steps: &[u8], out: &mut [u8]) -> Simulated
-    ensures answer { simulated_of result ≡ told out.old (program_text plan.now steps.now) }
+// What the program prints for a plan text and a steps text, in the first bytes of the buffer, and its length; or 30.
+pub fn simulate(plan: &[u8], steps: &[u8], out: &mut [u8]) -> Result<usize, Refusal>
+    ensures answer { listed_of result ≡ told out.old (program_text plan.now steps.now) }
     ensures buffer { out.new ≡ shown out.old (program_text plan.now steps.now) }
 {
-    let l = plan::load(plan);
-    if l.number != 0 {
-        return show_refused(b"load=", l.number, l.line, out);
-    }
-    let s = schedule::read(steps);
-    if s.number != 0 {
-        return show_refused(b"steps=", s.number, s.line, out);
-    }
-    let node = l.node;
-    let numbers = s.steps;
-    let count = s.count;
-    show_played(engine::play(node, &numbers[..count]), out)
-}
-
-fn show_refused(key: &[u8], number: u8, line: usize, out: &mut [u8]) -> Simulated
-    ensures answer { simulated_of result ≡ told out.old (refused_line key.now number line) }
-    ensures buffer { out.new ≡ shown out.old (refused_line key.now number line) }
-{
-    let mut none = [0u8; 1];
-    let counted = put_refused(&mut none[..0], 0, key, number, line);
-    if out.len() < counted {
-        return Simulated {
-            number: OUTPUT_SHORT,
-            length: 0,
+    let loaded = plan::load(plan);
+    if let Some(refused) = loaded.refused {
+        let refused = Refused {
+            key: b"load=",
+            number: refused.fault.number(),
+            line: refused.line,
         };
+        return show(&refused, out);
     }
-    let length = put_refused(out, 0, key, number, line);
-    Simulated { number: 0, length }
+    let schedule = match schedule::read(steps) {
+        Ok(schedule) => schedule,
+        Err(refused) => {
+            let refused = Refused {
+                key: b"steps=",
+                number: refused.number(),
+                line: refused.line(),
+            };
+            return show(&refused, out);
+        }
+    };
+    let played = engine::play(loaded.node, schedule.numbers());
+    show(&Replayed { played: &played }, out)
 }
 
-fn put_refused(out: &mut [u8], at: usize, key: &[u8], number: u8, line: usize) -> usize
-    ensures { Wrote out.old at (refused_line key.now number line) out.new result }
+// A text in the first bytes of the buffer, and its length; or 30.
+fn show<T: Text>(t: &T, out: &mut [u8]) -> Result<usize, Refusal>
+    ensures answer { listed_of result ≡ told out.old (T.text t.now) }
+    ensures buffer { out.new ≡ shown out.old (T.text t.now) }
 {
-    let e = put_bytes(out, at, key);
-    let e = put_number(out, e, number as u64);
-    let e = put_byte(out, e, b',');
-    let e = put_number(out, e, line as u64);
-    put_byte(out, e, b'\n')
+    fill(t, out).ok_or(Refusal::OutputShort)
 }
 
-fn show_played(r: Played, out: &mut [u8]) -> Simulated
-    ensures answer { simulated_of result ≡ told out.old (played_text (played_of r)) }
-    ensures buffer { out.new ≡ shown out.old (played_text (played_of r)) }
-{
-    let mut none = [0u8; 1];
-    let counted = put_played(&mut none[..0], 0, r);
-    if out.len() < counted {
-        return Simulated {
-            number: OUTPUT_SHORT,
-            length: 0,
-        };
+// A text that is refused: which of the two, its number and its line.
+#[derive(Clone, Copy)]
+struct Refused<'a> {
+    key: &'a [u8],
+    number: u8,
+    line: usize,
+}
+
+impl<'a> Text for Refused<'a> {
+    ghost text = { λ r. refused_line r.key.now r.number r.line };
+
+    fn put(&self, out: &mut [u8], at: usize) -> usize {
+        let e = put_bytes(out, at, self.key);
+        let e = put_number(out, e, self.number as u64);
+        let e = put_byte(out, e, b',');
+        let e = put_number(out, e, self.line as u64);
+        put_byte(out, e, b'\n')
     }
-    let length = put_played(out, 0, r);
-    Simulated { number: 0, length }
 }
 
-fn put_played(out: &mut [u8], at: usize, r: Played) -> usize
-    ensures { Wrote out.old at (played_text (played_of r)) out.new result }
-{
-    let node = r.node;
-    let e = put_number_line(out, at, b"accepted=", r.accepted as u64);
-    let e = put_number_line(out, e, b"refused=", r.refusal as u64);
-    put_listing(out, e, node)
+// A play whose count, refusal and listing are printed.
+#[derive(Clone, Copy)]
+struct Replayed<'a> {
+    played: &'a Played,
+}
+
+impl<'a> Text for Replayed<'a> {
+    ghost text = { λ r. played_text (played_of r.played.now) };
+
+    fn put(&self, out: &mut [u8], at: usize) -> usize {
+        let e = put_number_line(out, at, b"accepted=", self.played.accepted as u64);
+        let refused = self.played.refusal.map_or(0, Refusal::number);
+        let e = put_number_line(out, e, b"refused=", refused as u64);
+        self.played.node.put(out, e)
+    }
 }

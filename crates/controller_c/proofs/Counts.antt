@@ -12,29 +12,26 @@ use borrow.Author.Tests.{eq-eqb}
 use Rattle.consult.proofs.Recvs.{recv_number, consulted_bound}
 use Rattle.controller.specs.Program.{steps}
 use Rattle.node.specs.declared.Node.{Node}
-use Rattle.plan.specs.declared.Loaded.{Loaded}
-use Rattle.plan.specs.Plans.{load_of}
+use Rattle.plan.specs.Plans.{Loaded, load_of}
 use Rattle.plan.proofs.Sound.{loaded_sound}
 use Rattle.rules.specs.Answers.{Answer, done}
 use Rattle.rules.specs.Consult.{consulted, clauses_of, at_recv, consultation}
 use Rattle.rules.specs.Nodes.{Sound, mailbox}
 use Rattle.rules.specs.Steps.{play}
 use Rattle.rules.proofs.Commits.{play_sound}
-use Rattle.schedule.specs.declared.Schedule.{Schedule}
-use Rattle.schedule.specs.Reading.{schedule_of}
+use Rattle.schedule.specs.Reading.{Schedule, schedule_of}
 use Rattle.text.specs.Writing.{top}
-use Rattle.controller_c.specs.declared.Reached.{Reached}
-use Rattle.controller_c.specs.Exported.{reached_of, reached_by, exported_count, counted}
+use Rattle.controller_c.specs.Exported.{reached_by, exported_count, counted}
 use Rattle.controller_c.proofs.Reaches.{reached_refused, reached_told}
 
-module _ (x : Loaded) (s : Schedule) (i : ℕ) (r : Reached) (is : reached_of r ≡ reached_by x s) where
-  pub count_refused : r.refused ≡ true → top ≡ counted x s i
+module _ (x : Loaded) (s : Schedule) (i : ℕ) where
+  pub count_refused : none ≡ reached_by x s → top ≡ counted x s i
   unfolding counted
-  count_refused h = reached_refused (λ m. exported_count (consultation m i)) r is h
+  count_refused h = reached_refused (λ m. exported_count (consultation m i)) h
 
-  pub count_reached : r.refused ≡ false → {a : Answer (Option ℕ)} {k : ℕ} → a ≡ consultation r.node i → k ≡ exported_count a → k ≡ counted x s i
+  pub count_reached : {n : Node} → some n ≡ reached_by x s → {a : Answer (Option ℕ)} {k : ℕ} → a ≡ consultation n i → k ≡ exported_count a → k ≡ counted x s i
   unfolding counted
-  count_reached h e f = reached_told (λ m. exported_count (consultation m i)) r is h (f ∙ ap exported_count e)
+  count_reached h e f = reached_told (λ m. exported_count (consultation m i)) h (f ∙ ap exported_count e)
 
 -- ---- what the number says
 

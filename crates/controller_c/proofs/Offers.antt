@@ -2,7 +2,7 @@
 --   offer_refused offer_reached   what is told: one of the texts is refused, and none is
 --   offer_made   of accepted texts 0 is told where no step would be accepted, else the number of the first step that would be, which is neither 0 nor
 --                the largest: a caller can tell the three apart
-use mathlib.Core.Bool.{So, true, false, false≢true}
+use mathlib.Core.Bool.{So, false, false≢true}
 use mathlib.Core.List.{List}
 use mathlib.Core.Logic.{◌⊎◌, inl, inr}
 use mathlib.Core.Option.{Option, none, some}
@@ -16,8 +16,7 @@ use Rattle.engine.specs.Answers.{recorded}
 use Rattle.node.specs.declared.Node.{Node}
 use Rattle.node.specs.declared.Step.{Step}
 use Rattle.node.specs.Values.{is_number}
-use Rattle.plan.specs.declared.Loaded.{Loaded}
-use Rattle.plan.specs.Plans.{load_of}
+use Rattle.plan.specs.Plans.{Loaded, load_of}
 use Rattle.plan.proofs.Sound.{loaded_sound}
 use Rattle.rules.specs.Answers.{Answer, refused, done}
 use Rattle.rules.specs.Guarantees.{IsFirst}
@@ -28,21 +27,19 @@ use Rattle.rules.proofs.All.{parts}
 use Rattle.rules.proofs.Commits.{play_sound}
 use Rattle.rules.proofs.Records.{number_bounds}
 use Rattle.rules.proofs.Suggest.{acceptable_needs, suggests, none_on_offer, first_on_offer}
-use Rattle.schedule.specs.declared.Schedule.{Schedule}
-use Rattle.schedule.specs.Reading.{schedule_of}
+use Rattle.schedule.specs.Reading.{Schedule, schedule_of}
 use Rattle.text.specs.Writing.{top}
-use Rattle.controller_c.specs.declared.Reached.{Reached}
-use Rattle.controller_c.specs.Exported.{reached_of, reached_by, exported_offer, offered}
+use Rattle.controller_c.specs.Exported.{reached_by, exported_offer, offered}
 use Rattle.controller_c.proofs.Reaches.{reached_refused, reached_told}
 
-module _ (x : Loaded) (s : Schedule) (r : Reached) (is : reached_of r ≡ reached_by x s) where
-  pub offer_refused : r.refused ≡ true → top ≡ offered x s
+module _ (x : Loaded) (s : Schedule) where
+  pub offer_refused : none ≡ reached_by x s → top ≡ offered x s
   unfolding offered
-  offer_refused h = reached_refused (λ m. exported_offer (recorded (suggest m))) r is h
+  offer_refused h = reached_refused (λ m. exported_offer (recorded (suggest m))) h
 
-  pub offer_reached : r.refused ≡ false → {a : Answer (Option Step)} {k : ℕ} → a ≡ recorded (suggest r.node) → k ≡ exported_offer a → k ≡ offered x s
+  pub offer_reached : {n : Node} → some n ≡ reached_by x s → {a : Answer (Option Step)} {k : ℕ} → a ≡ recorded (suggest n) → k ≡ exported_offer a → k ≡ offered x s
   unfolding offered
-  offer_reached h e f = reached_told (λ m. exported_offer (recorded (suggest m))) r is h (f ∙ ap exported_offer e)
+  offer_reached h e f = reached_told (λ m. exported_offer (recorded (suggest m))) h (f ∙ ap exported_offer e)
 
 -- ---- what the number says
 

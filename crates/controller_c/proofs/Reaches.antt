@@ -1,7 +1,6 @@
 -- The node that two texts reach, by what is refused; and what is told of it, whatever it is that is told. Assumes nothing.
 --   plan_refused steps_refused both_played   one of the texts is refused, and none is
 --   reached_refused reached_told             the largest number is told where no node is reached, else what is told of the node
-use mathlib.Core.Bool.{true, false}
 use mathlib.Core.Option.{Option, none, some}
 use mathlib.Core.Path.{◌≡◌, ap, ◌∙◌}
 use Prim.Native.Nat.{ℕ}
@@ -10,12 +9,11 @@ use Rattle.controller.specs.Program.{steps}
 use Rattle.engine.specs.declared.Played.{Played}
 use Rattle.engine.specs.Answers.{played_of}
 use Rattle.node.specs.declared.Node.{Node}
-use Rattle.plan.specs.declared.Loaded.{Loaded}
+use Rattle.plan.specs.Plans.{Loaded}
 use Rattle.rules.specs.Steps.{Outcome, play}
-use Rattle.schedule.specs.declared.Schedule.{Schedule}
+use Rattle.schedule.specs.Reading.{Schedule}
 use Rattle.text.specs.Writing.{top}
-use Rattle.controller_c.specs.declared.Reached.{Reached}
-use Rattle.controller_c.specs.Exported.{reached_of, reached_by, of_reached}
+use Rattle.controller_c.specs.Exported.{reached_by, of_reached}
 
 module _ (x : Loaded) (s : Schedule) {p : Loaded} (loaded : p ≡ x) where
   pub plan_refused : (p.number ≡ 0 → ⊥) → none ≡ reached_by x s
@@ -27,13 +25,13 @@ module _ (x : Loaded) (s : Schedule) {p : Loaded} (loaded : p ≡ x) where
     unfolding reached_by
     steps_refused h = rw (← loaded, ← read, eq-eqb p.number 0 good, ne_eqb q.number 0 h)
 
-    pub both_played : {r : Played} → q.number ≡ 0 → played_of r ≡ play p.node (steps q) → some r.node ≡ reached_by x s
+    pub both_played : (r : Played) → q.number ≡ 0 → played_of r ≡ play p.node (steps q) → some r.node ≡ reached_by x s
     unfolding reached_by
-    both_played h e = rw (← loaded, ← read, eq-eqb p.number 0 good, eq-eqb q.number 0 h) (ap (λ (o : Outcome). some o.node) e)
+    both_played r h e = rw (← loaded, ← read, eq-eqb p.number 0 good, eq-eqb q.number 0 h) (ap (λ (o : Outcome). some o.node) e)
 
-module _ (f : Node → ℕ) (r : Reached) {o : Option Node} (is : reached_of r ≡ o) where
-  pub reached_refused : r.refused ≡ true → top ≡ of_reached f o
-  reached_refused h = rw (← is, h)
+module _ (f : Node → ℕ) {o : Option Node} where
+  pub reached_refused : none ≡ o → top ≡ of_reached f o
+  reached_refused h = ap (of_reached f) h
 
-  pub reached_told : r.refused ≡ false → {k : ℕ} → k ≡ f r.node → k ≡ of_reached f o
-  reached_told h e = e ∙ rw (← is, h)
+  pub reached_told : {n : Node} {k : ℕ} → some n ≡ o → k ≡ f n → k ≡ of_reached f o
+  reached_told h e = e ∙ ap (of_reached f) h

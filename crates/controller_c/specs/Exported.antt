@@ -5,12 +5,13 @@
 --   rewritten x y old   the number that is told where the behaviours of the load x are written with the starts of the load y into the buffer
 --                       `old`: 0 where a load is refused;  rewritten_shown x y old  the buffer behind it
 --   reached_by x s       the node behind a play of the read steps s on the load x; none where one of the texts is refused
---   reached_of r         what an answer of the code on it stands for
+--   reached_of r         what an answer of the code on it stands for: its `Option` is another type than the one that is computed with here
 --   of_reached f o       what f tells of the node that is reached, or the largest usize where none is
 --   exported_offer x     the number of the step that x suggests, 0 where it suggests none, or the largest usize where x is refused
 --   offered x s         the number that is told of a suggestion on the node that is reached
 --   exported_count x     the number that x tells, or the largest usize where it tells none or is refused
 --   counted x s i       the number that is told of the clauses that a search of the mailbox of process i of that node consults
+use Rattle.std.specs.Prelude.{Option as Maybe, None, Some}
 use Rattle.std.specs.Prelude.{Bool, ◌&&◌, cond, List, ℕ, eqb}
 use Rattle.std.proofs.Math.Option.{Option, none, some}
 use Rattle.actions.specs.Numbers.{encode}
@@ -20,17 +21,14 @@ use Rattle.node.specs.declared.Node.{Node}
 use Rattle.node.specs.declared.Step.{Step}
 use Rattle.node.specs.Starts.{node_behaviours, node_starts, starts_in}
 use Rattle.text.specs.Writing.{top}
-use Rattle.plan.specs.declared.Loaded.{Loaded}
-use Rattle.listing.specs.Answers.{output_short}
-use Rattle.listing.specs.declared.Listed.{Listed}
+use Rattle.plan.specs.Plans.{Loaded}
+use Rattle.listing.specs.Answers.{Listed, output_short}
 use Rattle.plan_writer.specs.Answers.{codes_of, write_told, write_shown}
-use Rattle.plan_writer.specs.declared.Written.{Written}
 use Rattle.rules.specs.Answers.{Answer, refused, done}
 use Rattle.rules.specs.Consult.{consultation}
 use Rattle.rules.specs.Steps.{play}
 use Rattle.rules.specs.Suggest.{suggest}
-use Rattle.schedule.specs.declared.Schedule.{Schedule}
-use Rattle.controller_c.specs.declared.Reached.{Reached}
+use Rattle.schedule.specs.Reading.{Schedule}
 
 unfoldable pub exported : Listed → ℕ
 exported x = cond (eqb x.number 0) x.length top
@@ -38,7 +36,7 @@ exported x = cond (eqb x.number 0) x.length top
 abbrev pub unsound : ℕ
 unsound = 18446744073709551614
 
-unfoldable pub exported_written : Written → ℕ
+unfoldable pub exported_written : Listed → ℕ
 exported_written x = cond (eqb x.number 0) x.length (cond (eqb x.number output_short) top unsound)
 
 abbrev pub both_loaded : Loaded → Loaded → Bool
@@ -54,8 +52,9 @@ rewritten_shown x y old = cond (both_loaded x y) (write_shown (codes_of (node_be
 unfoldable pub reached_by : Loaded → Schedule → Option Node
 reached_by x s = cond (eqb x.number 0 && eqb s.number 0) (some (play x.node (steps s)).node) none
 
-abbrev pub reached_of : Reached → Option Node
-reached_of r = cond r.refused none (some r.node)
+abbrev pub reached_of : Maybe Node → Option Node
+reached_of None = none
+reached_of (Some m) = some m
 
 abbrev pub of_reached : (Node → ℕ) → Option Node → ℕ
 of_reached f none = top

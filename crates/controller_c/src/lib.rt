@@ -1,10 +1,10 @@
 // The controller for C and Rust programs: include/open_controller.h declares what is exported here.
 #![tactic(auto)]
 
-ghost use Rattle.std.specs.Prelude.{◌≡◌};
+ghost use Rattle.std.specs.Prelude.{Err, ◌≡◌};
 ghost use Rattle.consult.specs.Answers.{consulted_of};
 ghost use Rattle.engine.specs.Answers.{suggestion_of};
-ghost use Rattle.listing.specs.Answers.{told, shown};
+ghost use Rattle.listing.specs.Answers.{listed_of, told, shown};
 ghost use Rattle.plan.specs.Plans.{load_of};
 ghost use Rattle.schedule.specs.Reading.{schedule_of};
 ghost use Rattle.controller.specs.Program.{program_text};
@@ -12,29 +12,23 @@ ghost use Rattle.controller_c.specs.Exported.{exported, exported_written, rewrit
 ghost use Rattle.controller_c.specs.Exported.{reached_of, reached_by, exported_offer, offered, exported_count, counted};
 
 use actions::encode;
-use consult::Consulted;
-use engine::Suggestion;
-use node::{Node, OUTPUT_SHORT};
-use plan_writer::{Written, write_plan};
+use node::{Node, Refusal, Step};
+use plan_writer::write_plan;
+use soundness::NotSound;
+
+// A C caller is told one number, and the header names the largest for a refusal: so these are numbers and no enum.
 
 // Told where the buffer is shorter than what is to be written (30).
-const SHORT: usize = 18446744073709551615;
+const SHORT: usize = usize::MAX;
 
 // Told where no accepted plan text holds the behaviours and starts that are to be written (31).
-const UNSOUND: usize = 18446744073709551614;
+const UNSOUND: usize = usize::MAX - 1;
 
 // Told where a text is refused on whose node a step is to be suggested.
-const REFUSED: usize = 18446744073709551615;
+const REFUSED: usize = usize::MAX;
 
 // Told where no search of a mailbox is counted: a text is refused, or the process is not live at a recv.
-const NOT_AT_RECV: usize = 18446744073709551615;
-
-// The node behind the steps of a text, played on a plan text until one is refused; or that one of the texts is refused.
-#[derive(Clone, Copy)]
-struct Reached {
-    node: Node,
-    refused: bool,
-}
+const NOT_AT_RECV: usize = usize::MAX;
 
 // What the program prints for a plan text and a steps text: its length, with the bytes in `out`; or SHORT, with `out` unchanged.
 #[unsafe(no_mangle)]
@@ -42,11 +36,7 @@ pub extern "C" fn open_controller_simulate(plan: &[u8], steps: &[u8], out: &mut 
     ensures answer { result ≡ exported (told out.old (program_text plan.now steps.now)) }
     ensures buffer { out.new ≡ shown out.old (program_text plan.now steps.now) }
 {
-    let r = controller::simulate(plan, steps, out);
-    if r.number != 0 {
-        return SHORT;
-    }
-    r.length
+    controller::simulate(plan, steps, out).unwrap_or(SHORT)
 }
 
 // The plan text with the behaviours of one plan text and the starts of another: its length, with the bytes in `out`; or, with `out` unchanged,
@@ -61,16 +51,14 @@ pub extern "C" fn open_controller_write_plan(
     ensures buffer { out.new ≡ rewritten_shown (load_of behaviours.now) (load_of starts.now) out.old }
 {
     let x = plan::load(behaviours);
-    if x.number != 0 {
+    if x.refused.is_some() {
         return 0;
     }
     let y = plan::load(starts);
-    if y.number != 0 {
+    if y.refused.is_some() {
         return 0;
     }
-    let n = x.node;
-    let m = y.node;
-    written_number(write_plan(n.behaviours(), m.starts(), out))
+    written_number(write_plan(x.node.behaviours(), y.node.starts(), out))
 }
 
 // The first step that would be accepted where the steps of a text lead, played on a plan text until one is refused: its kind (0 run, 1 arrive,
@@ -79,11 +67,10 @@ pub extern "C" fn open_controller_write_plan(
 pub extern "C" fn open_controller_suggest(plan: &[u8], steps: &[u8]) -> usize
     ensures { result ≡ offered (load_of plan.now) (schedule_of steps.now) }
 {
-    let r = reach(plan, steps);
-    if r.refused {
-        return REFUSED;
+    match reach(plan, steps) {
+        Some(n) => offer_number(engine::suggest(n)),
+        None => REFUSED,
     }
-    offer_number(engine::suggest(r.node))
 }
 
 // How many clauses a search consults of the mailbox of process number `process`, which is live at a recv where the steps of a text lead, played
@@ -92,73 +79,63 @@ pub extern "C" fn open_controller_suggest(plan: &[u8], steps: &[u8]) -> usize
 pub extern "C" fn open_controller_consulted(plan: &[u8], steps: &[u8], process: usize) -> usize
     ensures { result ≡ counted (load_of plan.now) (schedule_of steps.now) process }
 {
-    let r = reach(plan, steps);
-    if r.refused {
-        return NOT_AT_RECV;
+    match reach(plan, steps) {
+        Some(n) => count_number(consult::consultation(n, process)),
+        None => NOT_AT_RECV,
     }
-    count_number(consult::consultation(r.node, process))
 }
 
-// Where the steps of a text lead on a plan text.
-fn reach(plan: &[u8], steps: &[u8]) -> Reached
+// The node behind the steps of a text, played on a plan text until one is refused; none where one of the texts is refused.
+fn reach(plan: &[u8], steps: &[u8]) -> Option<Node>
     ensures { reached_of result ≡ reached_by (load_of plan.now) (schedule_of steps.now) }
 {
-    let l = plan::load(plan);
-    let node = l.node;
-    if l.number != 0 {
-        return Reached {
-            node,
-            refused: true,
-        };
+    let loaded = plan::load(plan);
+    if loaded.refused.is_some() {
+        return None;
     }
-    let s = schedule::read(steps);
-    if s.number != 0 {
-        return Reached {
-            node,
-            refused: true,
-        };
-    }
-    let numbers = s.steps;
-    let count = s.count;
-    let r = engine::play(node, &numbers[..count]);
-    let node = r.node;
-    Reached {
-        node,
-        refused: false,
-    }
+    let Ok(schedule) = schedule::read(steps) else {
+        return None;
+    };
+    Some(engine::play(loaded.node, schedule.numbers()).node)
 }
 
 // What a C caller is told of a suggestion. A play of a loaded node leaves a sound one, so that the first case is never met (`offer_made`).
-fn offer_number(s: Suggestion) -> usize
+fn offer_number(s: Result<Option<Step>, NotSound>) -> usize
     ensures { result ≡ exported_offer (suggestion_of s) }
 {
     match s {
-        Suggestion::Unsound => REFUSED,
-        Suggestion::Next(step) => encode(step) as usize,
-        Suggestion::Nothing => 0,
+        Err(_) => REFUSED,
+        Ok(Some(step)) => encode(step) as usize,
+        Ok(None) => 0,
     }
 }
 
 // What a C caller is told of a search. The first case is never met here either (`count_told_lem`).
-fn count_number(c: Consulted) -> usize
+fn count_number(c: Result<Option<usize>, NotSound>) -> usize
     ensures { result ≡ exported_count (consulted_of c) }
 {
     match c {
-        Consulted::Unsound => NOT_AT_RECV,
-        Consulted::Elsewhere => NOT_AT_RECV,
-        Consulted::Clauses(k) => k,
+        Ok(Some(k)) => k,
+        Ok(None) | Err(_) => NOT_AT_RECV,
     }
 }
 
 // What a C caller is told of a text that was written or refused.
-fn written_number(r: Written) -> usize
-    ensures { result ≡ exported_written r }
+fn written_number(r: Result<usize, Refusal>) -> usize
+    ensures { result ≡ exported_written (listed_of r) }
 {
-    if r.number == 0 {
-        return r.length;
+    match r {
+        Ok(length) => length,
+        Err(refusal) => refusal_told(refusal),
     }
-    if r.number == OUTPUT_SHORT {
-        return SHORT;
+}
+
+// Of the two refusals that a writer has, 30 is told apart.
+fn refusal_told(refusal: Refusal) -> usize
+    ensures { result ≡ exported_written (listed_of (Err refusal)) }
+{
+    match refusal {
+        Refusal::OutputShort => SHORT,
+        _ => UNSOUND,
     }
-    UNSOUND
 }

@@ -1,63 +1,60 @@
--- Two values by whether both are integers; the process that a value names; what the last arm of a match knows; an op by its number; what is said
--- of a process with messages; the lowest link and watcher. Assumes nothing.
+-- A sum within the limits of an integer; where a value names no process; what the last arm of a match knows; an op by its number; a run and an
+-- arrival by the stage; the lowest link and watcher. Assumes nothing.
 use mathlib.Core.Bool.{true, false}
 use mathlib.Core.List.{List, []}
-use mathlib.Core.Option.{Option, none, some}
-use mathlib.Core.Path.{◌≡◌, refl, sym, ◌∙◌, ap}
-use Prim.Native.Nat.{ℕ, zero, suc, ◌≤◌, ◌<◌}
+use mathlib.Core.Path.{◌≡◌, refl, sym, ◌∙◌, ap, subst}
+use Prim.Native.Nat.{ℕ, zero, suc, ◌≤◌, ◌<◌, ◌^◌}
 use native.Mathlib.Omega.{arith}
-use borrow.Author.Tests.{lt-leb, le-leb, lt-ltb, le-ltb}
-use lib.IntN.{ℤ}
+use borrow.Author.Tests.{lt-leb, le-leb}
+use lib.IntN.{ℤ, pos, negsuc}
+use mir.Syntax.{w32}
+use mir.Val.{SFits}
 use lib.ListN.{length, get_or, replicate, length-set, length-replicate, get_or-eq_default}
 use lib.Seq.{get_or-set_same}
-use Rattle.node.specs.declared.Message.{Message}
 use Rattle.node.specs.declared.Op.{Op}
 use Rattle.node.specs.declared.Process.{Process}
 use Rattle.node.specs.declared.ProcessNumber.{ProcessNumber}
 use Rattle.node.specs.declared.Signal.{Signal}
 use Rattle.node.specs.declared.Signal.TheVariants.{Exit, Down}
 use Rattle.node.specs.declared.Stage.{Stage}
-use Rattle.node.specs.Mailboxes.{no_message}
 use Rattle.node.specs.Nodes.{no_op}
 use Rattle.node.specs.Ops.{op_count}
 use Rattle.node.specs.Processes.{unlinked, unwatched, ended}
 use Rattle.node.specs.declared.Value.{Value}
 use Rattle.node.specs.declared.Value.TheVariants.{Int, Atom, Pid}
-use Rattle.node.specs.Values.{normal}
-use Rattle.rules.specs.Answers.{Answer, mailbox_full}
-use Rattle.rules.specs.Arrive.{joins_with, arrives_in, arrives}
-use Rattle.rules.specs.Effects.{State, Effect, becomes, ends, sends}
+use Rattle.node.specs.Values.{normal, badarg, fits_int, same_value}
+use Rattle.rules.specs.Answers.{Answer}
+use Rattle.rules.specs.Arrive.{arrives_in, arrives}
+use Rattle.rules.specs.Effects.{State, Effect, sends}
 use Rattle.rules.specs.Receive.{receives}
-use Rattle.rules.specs.Run.{sends_to, to_other, on_integers, stops, op_table, runs_op, runs_live, runs_in, runs, closes_to}
-use Rattle.decisions.specs.Answers.{unread, tells, refusing, becoming, decision_of, says, ran_op, code_at, ran, arrived, integers_of, named_by}
-use Rattle.decisions.specs.declared.Pair.TheVariants.{Not, Both}
+use Rattle.rules.specs.Run.{sends_to, to_other, stops, op_table, runs_op, runs_live, runs_in, runs, closes_to}
+use Rattle.decisions.specs.Answers.{unread, becoming, decision_of, says, ran_op, code_at, ran, arrived}
 
--- ---- two values, where both are integers, or not
+-- ---- the sum of two integers
 
-module _ (st : State) (v : Value) (f : ℤ → ℤ → Answer Effect) where
-  pub integers_not : (a b : Option ℤ) → integers_of a b ≡ Not → on_integers st v a b f ≡ ends st v
-  integers_not (some x) (some y) e = absurd (let z : ◌≡◌ {A = ℕ} 0 1 = cc e in omega arith)
-  integers_not (some x) none e = refl
-  integers_not none b e = refl
+pub fits : (z : ℤ) → SFits w32 z → fits_int z ≡ true
+unfolding fits_int
+fits (pos n) f = let h : n < 2 ^ 31 = f.sfits in rw (le-leb n 2147483647 (omega (arith, h)))
+fits (negsuc n) f = let h : n < 2 ^ 31 = f.sfits in rw (le-leb n 2147483647 (omega (arith, h)))
 
-  pub integers_both : (a b : Option ℤ) (x y : ℤ) → integers_of a b ≡ Both x y → on_integers st v a b f ≡ f x y
-  integers_both (some z) (some w) x y e = cc e
-  integers_both (some z) none x y e = absurd (let z : ◌≡◌ {A = ℕ} 0 1 = cc e in omega arith)
-  integers_both none b x y e = absurd (let z : ◌≡◌ {A = ℕ} 0 1 = cc e in omega arith)
+-- the limits of an integer are those of 32 bits
+pub fits_not : (z : ℤ) → (SFits w32 z → ⊥) → fits_int z ≡ false
+unfolding fits_int
+fits_not (pos n) h = let g : n < 2 ^ 31 → ⊥ = λ k. h (record { sfits = k }) in rw (lt-leb n 2147483647 (omega (arith, g)))
+fits_not (negsuc n) h = let g : n < 2 ^ 31 → ⊥ = λ k. h (record { sfits = k }) in rw (lt-leb n 2147483647 (omega (arith, g)))
 
--- ---- the process that a value names
+-- ---- a value that names no process
 
--- what a sender becomes is asked for no other process than that
-asks_named : (i : ℕ) (p : Process) (v : Value) (q : ℕ → Process) (x : Signal) →
-    says p 0 (λ st. to_other i st v (sends_to st v (λ j. q (named_by v)) x)) ≡ says p 0 (λ st. to_other i st v (sends_to st v q x))
-asks_named i p (Int z) q x = refl
-asks_named i p (Atom a) q x = refl
-asks_named i p (Pid j) q x = refl
-
--- by an op that reads w in a register, finds that it names j, and makes next of its process
-pub to_named : {v w : Value} {j : ℕ} {next : Process} (i : ℕ) (p : Process) (q : ℕ → Process) (x : Signal) → w ≡ v → j ≡ named_by w → next ≡ q j →
-    says p 0 (λ st. to_other i st w (sends_to st w (λ k. next) x)) ≡ says p 0 (λ st. to_other i st v (sends_to st v q x))
-to_named {v = v} i p q x read names made = rw (made, names, read, asks_named i p v q x)
+-- an op that reads v in a register where v names no process
+pub no_receiver : {v w : Value} (i : ℕ) (p : Process) (q : ℕ → Process) (x : Signal) → w ≡ v → ((j : ProcessNumber) → w ≡ Pid j → ⊥)
+    → becoming (ended p badarg) ≡ says p 0 (λ st. to_other i st v (sends_to st v q x))
+unfolding same_value
+no_receiver {w = w} i p q x e h = subst (λ (v : Value). becoming (ended p badarg) ≡ says p 0 (λ st. to_other i st v (sends_to st v q x))) e (go w h)
+  where
+    go : (v : Value) → ((j : ProcessNumber) → v ≡ Pid j → ⊥) → becoming (ended p badarg) ≡ says p 0 (λ st. to_other i st v (sends_to st v q x))
+    go (Int z) h = refl
+    go (Atom a) h = refl
+    go (Pid j) h = absurd (h j refl)
 
 -- ---- the last arm of a match
 
@@ -112,17 +109,7 @@ module _ (i : ProcessNumber) (p : Process) (len : ℕ) (o : Op) where
   unfolding ran_op runs_live runs_op receives
   live_op h = rw (ops_length p len o, lt-leb len p.place h, ops_op p len o h)
 
--- ---- a process whose mailbox holds k messages
-
-module _ (p q : Process) (k : ℕ) where
-  pub says_becomes : becoming q ≡ says p k (λ st. becomes st q)
-  says_becomes = refl
-
-  pub says_joins : (x : Message) → k < 16 → tells 0 q false (some x) none none ≡ says p k (λ st. joins_with st q x)
-  says_joins x h = rw (length-replicate k no_message.message, lt-ltb k 16 h)
-
-  pub says_full : (x : Message) → 16 ≤ k → refusing p mailbox_full ≡ says p k (λ st. joins_with st q x)
-  says_full x h = rw (length-replicate k no_message.message, le-ltb k 16 h)
+-- ---- an arrival by the stage
 
 pub comes_at : (i j : ProcessNumber) (p : Process) (k : ℕ) (x : Signal) {s : Stage} → p.stage ≡ s → says p k (λ st. arrives_in s i.0 j.0 st x) ≡ arrived i j p k x
 unfolding arrived arrives

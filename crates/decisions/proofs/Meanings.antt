@@ -42,7 +42,7 @@ use Rattle.rules.specs.Timeout.{at_after, is_live, expires_live, expires_in, exp
 use Rattle.receive.specs.Waiting.{awaits}
 use Rattle.decisions.proofs.Laws.{ops_length, ops_op}
 use Rattle.decisions.specs.Answers.{state_of, unread, refusing, searching, decision_of, code_at, ran, arrived, expired, answer_of}
-use Rattle.decisions.specs.declared.Decision.{Decision}
+use Rattle.decisions.specs.Records.{Decision}
 
 -- the code has len ops, and o stands at place t where t is not its end
 pub record At (code : List Op) (len t : ℕ) (o : Op) : Type 0 where

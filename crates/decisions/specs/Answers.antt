@@ -16,10 +16,7 @@
 --   mail_of, sent_of, born_of what becomes of the mailbox by a record, what it sends, and whom it brings to life
 --   effect_of i e           the effect that a record tells of process i
 --   answer_of late code i st e   the rules' answer that record e tells of process i, in state st and with its code: of a timeout if `late`
---   named_by v              the process that value v names; 0 where it names none
---   sum_of z                the sum of two integers, where it is one too
---   integers_of a b         two integers, where both are there
-use Rattle.std.specs.Prelude.{Bool, true, false, cond, List, [], ℕ, eqb, ℤ, get_or, set, replicate}
+use Rattle.std.specs.Prelude.{Bool, true, false, cond, List, [], ℕ, eqb, get_or, set, replicate}
 use Rattle.std.proofs.Math.Option
 use Rattle.std.proofs.Math.Option.{Option, none, some}
 use Rattle.node.specs.declared.Message.{Message}
@@ -28,23 +25,18 @@ use Rattle.node.specs.declared.Process.{Process}
 use Rattle.node.specs.declared.ProcessNumber.{ProcessNumber}
 use Rattle.node.specs.declared.Signal.{Signal}
 use Rattle.node.specs.declared.Signal.TheVariants.{Link}
-use Rattle.node.specs.declared.Value.{Value}
-use Rattle.node.specs.declared.Value.TheVariants.{Int}
 use Rattle.node.specs.Mailboxes.{no_message}
 use Rattle.node.specs.Nodes.{no_op, no_process}
 use Rattle.node.specs.Processes.{fresh}
-use Rattle.node.specs.Values.{int_zero, pid, fits_int}
+use Rattle.node.specs.Values.{pid}
 use Rattle.rules.specs.Answers.{Answer, refused, done, mailbox_empty, no_timeout}
 use Rattle.rules.specs.Arrive.{arrives}
 use Rattle.rules.specs.Effects.{State, MailChange, unchanged, joining, leaving, Sending, Birth, Effect}
 use Rattle.rules.specs.Receive.{receives}
-use Rattle.rules.specs.Run.{process_in, runs, runs_op}
+use Rattle.rules.specs.Run.{runs, runs_op}
 use Rattle.rules.specs.Timeout.{expires_live}
 use Rattle.receive.specs.Waiting.{awaits}
-use Rattle.decisions.specs.declared.Pair.{Pair}
-use Rattle.decisions.specs.declared.Pair.TheVariants.{Not, Both}
-use Rattle.decisions.specs.declared.Sum.{Sum}
-use Rattle.decisions.specs.declared.Decision.{Decision}
+use Rattle.decisions.specs.Records.{Decision}
 
 abbrev pub state_of : Process → List Message → State
 state_of p m = record { process = p; mail = m }
@@ -143,14 +135,3 @@ answer_of late code i st e =
     cond e.receives (cond late (expires_live code st) (receives code st (get_or code st.process.place no_op)))
     (cond (eqb e.refusal 0) (done (effect_of i e))
     (refused e.refusal))
-
-abbrev pub named_by : Value → ℕ
-named_by v = Option.get_or (process_in v) 0
-
-abbrev pub sum_of : ℤ → Sum
-sum_of z = cond (fits_int z) (record { fits = true; total = Int z }) (record { fits = false; total = int_zero })
-
-abbrev pub integers_of : Option ℤ → Option ℤ → Pair
-integers_of (some x) (some y) = Both x y
-integers_of (some x) none = Not
-integers_of none y = Not

@@ -4,7 +4,7 @@
 --   pair_refusal refusal c       the refusal of a decision that sends, where c signals are in flight to the receiver: its own, or 26
 --   birth_refusal refusal old    of one that spawns, where the process of that number is old: its own, or 27
 use Rattle.std.specs.Prelude.{cond, ℕ, eqb, leb}
-use Rattle.decisions.specs.declared.Decision.{Decision}
+use Rattle.decisions.specs.Records.{Decision}
 use Rattle.decisions.specs.Answers.{refusing, ran, arrived, expired}
 use Rattle.node.specs.declared.Op.{Op}
 use Rattle.node.specs.declared.Process.{Process}

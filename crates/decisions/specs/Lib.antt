@@ -1,2 +1,4 @@
+pub mod Records
 pub mod Answers
 pub mod Decided
+pub mod Told

@@ -9,8 +9,12 @@ use native.Mathlib.Omega.{arith}
 use borrow.Author.Tests.{lt-ltb, le-ltb}
 use lib.Dec.{ltb}
 use lib.ListN.{length, get_or}
+use Rattle.std.specs.Prelude.{Option as Optional, Err}
 use Rattle.node.specs.declared.Node.{Node}
+use Rattle.node.specs.declared.Refusal.{Refusal}
 use Rattle.node.specs.declared.Step.{Step}
+use Rattle.node.specs.Refusals.{refusal_number, refusal_told}
+use Rattle.node.proofs.Refusals.{above_zero}
 use Rattle.rules.specs.Answers.{Answer, refused, done, need}
 use Rattle.rules.specs.Nodes.{Sound, sound}
 use Rattle.rules.specs.Steps.{Action, run, meaning, Outcome, step, rule, plays_on, played, play}
@@ -19,8 +23,7 @@ use Rattle.rules.proofs.Suggest.{possible_count}
 use Rattle.actions.specs.Numbers.{decode, action_of, possible_numbers}
 use Rattle.actions.proofs.AllSteps.{numbers_mean, number_at}
 use Rattle.engine.specs.declared.Played.{Played as Answered}
-use Rattle.engine.specs.declared.Stepped.{Stepped}
-use Rattle.engine.specs.Answers.{played_of, stepped_by, recorded, first_of}
+use Rattle.engine.specs.Answers.{Stepped, played_of, stepped_of, stepped_by, recorded, first_of}
 
 -- ---- 31 and 32
 
@@ -52,6 +55,11 @@ one n a = go (sound n) refl (rule n a)
     go true e (refused k) = refl
     go true e (done m) = refl
     go false e x = refl
+
+-- what a step tells with a refusal tells of the node as it stood
+pub stays : (n m : Node) (r : Refusal) (x : Answer Node) → record { node = m; refusal = refusal_number r } ≡ stepped_by n x → stepped_of n (Err r) ≡ stepped_by n x
+stays n m r (refused k) e = ap (λ (t : Stepped). record { node = n; refusal = t.refusal }) e
+stays n m r (done k) e = absurd (above_zero r (ap (λ (t : Stepped). t.refusal) e))
 
 pub step_31 : (n : Node) (a : Action) → sound n ≡ false → record { node = n; refusal = 31 } ≡ stepped_by n (step n a)
 unfolding step
@@ -105,5 +113,7 @@ module _ (n : Node) (s : Step) (k : ℕ) (encoded : decode k ≡ s) where
   unfolding action_of
   action_of_lem = rw encoded
 
-  pub step_played : Sound n → (r : Answered) → played_of r ≡ played n (map action_of (k ∷ [])) → record { node = r.node; refusal = r.refusal } ≡ stepped_by n (step n (meaning s))
-  step_played ok r h = ap (stepped n) (h ∙ play_on n (map action_of (k ∷ [])) ok (omega arith)) ∙ rw action_of_lem (one n (meaning s))
+  pub step_played : {o : Optional Refusal} → Sound n → (r : Answered) → played_of r ≡ played n (map action_of (k ∷ [])) → r.refusal ≡ o
+      → record { node = r.node; refusal = refusal_told o } ≡ stepped_by n (step n (meaning s))
+  step_played ok r h e = ap (λ (o : Optional Refusal). record { node = r.node; refusal = refusal_told o }) (sym e)
+      ∙ ap (stepped n) (h ∙ play_on n (map action_of (k ∷ [])) ok (omega arith)) ∙ rw action_of_lem (one n (meaning s))

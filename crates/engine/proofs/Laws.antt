@@ -7,13 +7,9 @@ use native.Mathlib.Numerals.{add-one}
 use native.Mathlib.Omega.{arith}
 use lib.ListN.{length, get_or, drop, length-map, drop_of_length-le}
 use lib.Seq.{drop-cons}
-use Rattle.node.specs.declared.Message.{Message}
 use Rattle.node.specs.declared.Node.{Node}
 use Rattle.node.specs.declared.Cell.{Cell}
 use Rattle.node.specs.declared.Slot.{Slot}
-use Rattle.node.specs.Blocks.{block_of}
-use Rattle.node.specs.Mailboxes.{messages}
-use Rattle.node.specs.Nodes.{mail_shelf}
 use Rattle.rules.specs.Answers.{Answer, refused, done}
 use Rattle.rules.specs.Nodes.{Sound}
 use Rattle.rules.specs.Steps.{Action, Outcome, step, rule, played}
@@ -47,13 +43,13 @@ module _ (l : List ℕ) (i : ℕ) (n : Node) where
       let z : i ≡ i + 0 = omega arith in
       ap (λ (x : ℕ). record { accepted = x; refusal = k; node = n }) z ∙ sym (v ∙ rw (next h, q))
 
-  pub more : {g : Outcome} → (m : Node) → i < length l → Sound n → Left g l i n → rule n (action_of (get_or l i 0)) ≡ done m → (i + 1 ≤ length l) × Sound m × Left g l (i + 1) m
+  pub more : {g : Outcome} → (m : Node) → i < length l → Sound n → Left g l i n → rule n (action_of (get_or l i 0)) ≡ done m → Sound m × Left g l (i + 1) m
   unfolding played
   more m h s v r =
       let q : step n (action_of (get_or l i 0)) ≡ done m = step_rule n (action_of (get_or l i 0)) s ∙ r in
       let p = played m (drop (i + 1) (map action_of l)) in
       let z : i + (p.accepted + 1) ≡ i + 1 + p.accepted = omega arith in
-      (omega arith, step_sound n m (action_of (get_or l i 0)) q, v ∙ rw (next h, q) (ap (λ (x : ℕ). record { accepted = x; refusal = p.refusal; node = p.node }) z))
+      (step_sound n m (action_of (get_or l i 0)) q, v ∙ rw (next h, q) (ap (λ (x : ℕ). record { accepted = x; refusal = p.refusal; node = p.node }) z))
 
   pub over : {g : Outcome} → length l ≤ i → Left g l i n → record { accepted = i; refusal = 0; node = n } ≡ g
   unfolding played
@@ -117,7 +113,3 @@ with_cells n c = record { count = n.count; lens = n.lens; ops = n.ops; processes
 
 abbrev pub with_slots : Node → List Slot → Node
 with_slots n s = record { count = n.count; lens = n.lens; ops = n.ops; processes = n.processes; waiting = n.waiting; slots = s; counts = n.counts; cells = n.cells }
-
--- the messages of the process at index k
-abbrev pub mail_of : Node → ℕ → List Message
-mail_of n k = messages (block_of 16 k (mail_shelf n))

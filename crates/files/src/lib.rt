@@ -23,6 +23,7 @@ pub fn read_file<R: Files>(rt: &R, path: &[u8], buffer: &mut [u8]) -> usize
 
 // A read gives some bytes, as many as there are just then, 0 at the end of the file, or an error. Bytes before a read that fails are not
 // counted: the text would be cut.
+// A `while`, since each read tells how far the next one begins; `read_to_end` would want a `Vec`.
 fn read_open<F: Read>(file: &mut F, buffer: &mut [u8]) -> usize
     ensures { result ≤ length buffer.new }
 {

@@ -19,8 +19,7 @@ use Rattle.rules.specs.Nodes.{sound, process, mailbox, row, standing, view, beha
 use Rattle.node.specs.Values.{numbers}
 use Rattle.listing_lines.proofs.Longest.{Within, ◌⊕◌, made_within, longest_process, standing_within, longest_pair, pair_within}
 use Rattle.listing_lines.specs.Lines.{standing_text, pair_text}
-use Rattle.listing.specs.Answers.{refused_with, told, shown, known_told, known_shown, list_told, list_shown}
-use Rattle.listing.specs.declared.Listed.{Listed}
+use Rattle.listing.specs.Answers.{Listed, refused_with, told, shown, known_told, known_shown, list_told, list_shown}
 use Rattle.listing.specs.Listing.{rows_text, listing_text, listing_of, longest}
 use Rattle.listing.proofs.Laws.{told_fits, known_told_lem}
 

@@ -1,11 +1,13 @@
 -- Laws of the lines' texts, in the form in which their writers meet them. Assumes nothing.
---   left_member left_members_end      a turn of the loop over a link set, and its end
---   lines_in                          the lines of a process by its stage
---   standing_text_lem                     a process: its lines, then its messages
---   mail_length mail_at_lem               how many messages are listed, and which
---   registers_text                    four registers
---   pair_none pair_some               a pair without and with signals
-use mathlib.Core.Bool.{Bool, true, false, cond, ◌||◌}
+--   commaed                   members behind what is to stand before the next;  with_commas_lem  nothing before the first
+--   left_absent left_member   a turn of the loop over a link set;  left_members_end  its end
+--   flag_lem                  a bool as a number
+--   lines_in                  the lines of a process by its stage
+--   standing_text_lem         a process: its lines, then its messages
+--   mail_length mail_at_lem   how many messages are listed, and which
+--   registers_text            four registers
+--   pair_none pair_some       a pair without and with signals
+use mathlib.Core.Bool.{Bool, true, false}
 use mathlib.Core.List.{List, [], ◌∷◌, ◌++◌, append_assoc, append-nil}
 use mathlib.Core.Path.{◌≡◌, refl, sym, ap, ◌∙◌}
 use Prim.Native.Nat.{ℕ, ◌+◌, ◌≤◌, ◌<◌}
@@ -13,6 +15,7 @@ use native.Mathlib.Nat.{not-suc-le-zero}
 use native.Mathlib.Omega.{arith}
 use borrow.Author.Tests.{le-leb}
 use lib.ListN.{length, drop, get_or, drop_of_length-le}
+use mir.Val.{bool_byte}
 use Rattle.node.specs.Processes.{mail_count}
 use Rattle.node.specs.declared.Message.{Message}
 use Rattle.node.specs.declared.Peers.{Peers}
@@ -29,19 +32,23 @@ use Rattle.rules.specs.Nodes.{standing, standing_in, set_of}
 use Rattle.text.proofs.Parts.{drop_next}
 use Rattle.text.proofs.Writing.{Left, left_more, left_none}
 use Rattle.text.specs.Writing.{Wrote, digits, digits_in, each}
-use Rattle.listing_lines.specs.Lines.{comma, value_line, each_from, joins_if, members, with_commas, register_line, message_line, mail_of, standing_lines, standing_text, signal_line}
+use Rattle.listing_lines.specs.Lines.{comma, value_line, each_from, flag, members, with_commas, register_line, message_line, mail_of, standing_lines, standing_text, signal_line}
 use Rattle.listing_lines.specs.Lines.{flight_line, pair_text}
 
--- ---- a loop that writes a link set; a comma stands before all members but the first
-unfoldable pub commaed : Bool → List ℕ → List ℕ
-commaed later l = cond later (each (λ (k : ℕ). comma ++ digits k) l) (with_commas l)
+-- ---- a loop that writes a link set: each member behind what is to stand before it, a comma behind the first
+unfoldable pub commaed : List ℕ → List ℕ → List ℕ
+commaed sep [] = []
+commaed sep (j ∷ l) = sep ++ digits j ++ commaed comma l
 
-commaed_next : (b later : Bool) (j : ℕ) (l : List ℕ) → commaed later (joins_if b j l) ≡ cond b (cond later (comma ++ digits j) (digits j)) [] ++ commaed (later || b) l
-unfolding commaed each with_commas
-commaed_next true true j l = refl
-commaed_next true false j l = refl
-commaed_next false true j l = refl
-commaed_next false false j l = refl
+commaed_each : (l : List ℕ) → commaed comma l ≡ each (λ (k : ℕ). comma ++ digits k) l
+unfolding commaed each
+commaed_each [] = refl
+commaed_each (j ∷ l) = ap (λ (t : List ℕ). comma ++ digits j ++ t) (commaed_each l)
+
+pub with_commas_lem : (l : List ℕ) → commaed [] l ≡ with_commas l
+unfolding commaed with_commas
+with_commas_lem [] = refl
+with_commas_lem (j ∷ l) = ap (λ (t : List ℕ). digits j ++ t) (commaed_each l)
 
 number_at : (k : ℕ) → k < 16 → get_or numbers k 0 ≡ k + 1
 number_at k h = let e : 1 + k ≡ k + 1 = omega arith in rising_at 1 16 k 0 h ∙ e
@@ -50,22 +57,25 @@ set_at : (s : Peers) (k : ℕ) → k < 16 → set_of s (k + 1) ≡ has s (k + 1)
 unfolding set_of is_number
 set_at s k h = rw (le-leb 1 (k + 1) (omega arith), le-leb (k + 1) 16 (omega arith))
 
-module _ (s : Peers) (k : ℕ) (later : Bool) {o text m : List ℕ} {a e : ℕ} (w : Left o a text m e (commaed later (members (set_of s) (drop k numbers)))) where
-  -- b: whether process k + 1 is there
-  pub left_member : {u : List ℕ} {r : ℕ} {b : Bool} → k < 16 → b ≡ has s (k + 1)
-      → Wrote m e (cond b (cond later (comma ++ digits (k + 1)) (digits (k + 1))) []) u r
-      → Left o a text u r (commaed (later || b) (members (set_of s) (drop (k + 1) numbers)))
+module _ (s : Peers) (k : ℕ) (sep : List ℕ) {o text m : List ℕ} {a e : ℕ} (w : Left o a text m e (commaed sep (members (set_of s) (drop k numbers)))) where
+  -- process k + 1 is not there, or it is
+  pub left_absent : k < 16 → false ≡ has s (k + 1) → Left o a text m e (commaed sep (members (set_of s) (drop (k + 1) numbers)))
   unfolding members
-  left_member {b = b} h is q =
-      left_more (rw (drop_next numbers k 0 h, number_at k h, set_at s k h, ← is, commaed_next b later (k + 1) (members (set_of s) (drop (k + 1) numbers))) at w) q
+  left_absent h is = rw (drop_next numbers k 0 h, number_at k h, set_at s k h, ← is) at w
+
+  pub left_member : {u : List ℕ} {r : ℕ} → k < 16 → true ≡ has s (k + 1) → Wrote m e (sep ++ digits (k + 1)) u r
+      → Left o a text u r (commaed comma (members (set_of s) (drop (k + 1) numbers)))
+  unfolding members commaed
+  left_member h is q = left_more (rw (drop_next numbers k 0 h, number_at k h, set_at s k h, ← is) at w) q
 
   pub left_members_end : 16 ≤ k → Wrote o a text m e
-  unfolding members commaed each with_commas
-  left_members_end h = left_none (rw (drop_of_length-le numbers {i = k} h, none later) at w)
-    where
-      none : (b : Bool) → commaed b [] ≡ []
-      none true = refl
-      none false = refl
+  unfolding members commaed
+  left_members_end h = left_none (rw (drop_of_length-le numbers {i = k} h) at w)
+
+-- a bool as the code's number
+pub flag_lem : (b : Bool) → bool_byte b ≡ flag b
+flag_lem true = refl
+flag_lem false = refl
 
 -- ---- a process by its stage, with its messages apart; registers; pairs
 module _ (i : ℕ) (p : Process) where

@@ -6,7 +6,7 @@ ghost use Rattle.std.specs.Prelude.{cond, [], ◌∷◌, ◌++◌, ◌≡◌};
 ghost use Rattle.rules.specs.Nodes.{set_of, running, live, closing, gone, standing};
 ghost use Rattle.node.specs.Values.{numbers};
 ghost use Rattle.text.specs.Writing.{Wrote, digits};
-ghost use Rattle.listing_lines.specs.Lines.{comma, value_line, each_from, flag, members, with_commas, set_line, set_lines, register_line};
+ghost use Rattle.listing_lines.specs.Lines.{value_line, each_from, members, with_commas, set_line, set_lines, register_line};
 ghost use Rattle.listing_lines.specs.Lines.{sender_line, message_line, standing_lines, signal_line, flight_line};
 
 use node::{Message, Peers, Process, ProcessNumber, Signal, Stage, Value};
@@ -16,8 +16,7 @@ use text::{put_byte, put_bytes, put_number, put_number_line, put_value};
 pub fn put_process(out: &mut [u8], at: usize, i: ProcessNumber, p: Process, waiting: u8) -> usize
     ensures { Wrote out.old at (standing_lines i.0 (standing p []) waiting) out.new result }
 {
-    let stage = p.stage;
-    match stage {
+    match p.stage {
         Stage::Unborn => at,
         Stage::Live => put_live(out, at, i, p, waiting),
         Stage::Closing => put_closing(out, at, i, p),
@@ -70,7 +69,7 @@ fn put_live(out: &mut [u8], at: usize, i: ProcessNumber, p: Process, waiting: u8
     let e = put_number_line(out, e, b"behaviour=", p.behaviour.0 as u64);
     let e = put_number_line(out, e, b"place=", p.place as u64);
     let e = put_registers(out, e, p);
-    let e = put_number_line(out, e, b"trap=", flag(p.trap));
+    let e = put_number_line(out, e, b"trap=", u64::from(p.trap));
     let e = put_sets(out, e, p);
     put_number_line(out, e, b"mail=", waiting as u64)
 }
@@ -79,25 +78,19 @@ fn put_live(out: &mut [u8], at: usize, i: ProcessNumber, p: Process, waiting: u8
 fn put_sets(out: &mut [u8], at: usize, p: Process) -> usize
     ensures { Wrote out.old at (set_lines (set_of p.links) (set_of p.watches) (set_of p.watchers)) out.new result }
 {
-    let links = p.links;
-    let watches = p.watches;
-    let watchers = p.watchers;
-    let e = put_set(out, at, b"links=", links);
-    let e = put_set(out, e, b"watches=", watches);
-    put_set(out, e, b"watchers=", watchers)
+    let e = put_set(out, at, b"links=", p.links);
+    let e = put_set(out, e, b"watches=", p.watches);
+    put_set(out, e, b"watchers=", p.watchers)
 }
 
 fn put_closing(out: &mut [u8], at: usize, i: ProcessNumber, p: Process) -> usize
     ensures { Wrote out.old at (standing_lines i.0 (closing p.reason (set_of p.links) (set_of p.watchers)) 0) out.new result }
 {
-    let reason = p.reason;
-    let links = p.links;
-    let watchers = p.watchers;
     let e = put_number_line(out, at, b"process=", i.0 as u64);
     let e = put_bytes(out, e, b"stage=closing\n");
-    let e = put_value_line(out, e, b"reason=", reason);
-    let e = put_set(out, e, b"links=", links);
-    put_set(out, e, b"watchers=", watchers)
+    let e = put_value_line(out, e, b"reason=", p.reason);
+    let e = put_set(out, e, b"links=", p.links);
+    put_set(out, e, b"watchers=", p.watchers)
 }
 
 fn put_gone(out: &mut [u8], at: usize, i: ProcessNumber) -> usize
@@ -110,14 +103,10 @@ fn put_gone(out: &mut [u8], at: usize, i: ProcessNumber) -> usize
 fn put_registers(out: &mut [u8], at: usize, p: Process) -> usize
     ensures { Wrote out.old at (each_from register_line 0 (p.r0 ∷ p.r1 ∷ p.r2 ∷ p.r3 ∷ [])) out.new result }
 {
-    let r0 = p.r0;
-    let r1 = p.r1;
-    let r2 = p.r2;
-    let r3 = p.r3;
-    let e = put_value_line(out, at, b"r0=", r0);
-    let e = put_value_line(out, e, b"r1=", r1);
-    let e = put_value_line(out, e, b"r2=", r2);
-    put_value_line(out, e, b"r3=", r3)
+    let e = put_value_line(out, at, b"r0=", p.r0);
+    let e = put_value_line(out, e, b"r1=", p.r1);
+    let e = put_value_line(out, e, b"r2=", p.r2);
+    put_value_line(out, e, b"r3=", p.r3)
 }
 
 // A key and a set of processes.
@@ -133,30 +122,17 @@ fn put_members(out: &mut [u8], at: usize, set: Peers) -> usize
     ensures { Wrote out.old at (with_commas (members (set_of set) numbers)) out.new result }
 {
     let mut e = at;
-    let mut later = false;
-    let mut k: u8 = 0;
-    while k < 16 {
+    let mut comma: &[u8] = b"";
+    for k in 0..16 {
         let j = ProcessNumber(k + 1);
-        let there = set.has(j);
-        e = put_member(out, e, there, later, j);
-        later = later | there;
-        k += 1;
+        if !set.has(j) {
+            continue;
+        }
+        e = put_bytes(out, e, comma);
+        e = put_number(out, e, j.0 as u64);
+        comma = b",";
     }
     e
-}
-
-// Process j, where it is there; a comma stands before all but the first.
-fn put_member(out: &mut [u8], at: usize, there: bool, later: bool, j: ProcessNumber) -> usize
-    ensures { Wrote out.old at (cond there (cond later (comma ++ digits j.0) (digits j.0)) []) out.new result }
-{
-    if there {
-        if later {
-            let e = put_byte(out, at, b',');
-            return put_number(out, e, j.0 as u64);
-        }
-        return put_number(out, at, j.0 as u64);
-    }
-    at
 }
 
 // A key, a sender and its reason.
@@ -176,7 +152,7 @@ fn put_exit(out: &mut [u8], at: usize, v: Value, b: bool) -> usize
     let e = put_bytes(out, at, b"signal=exit,");
     let e = put_value(out, e, v);
     let e = put_byte(out, e, b',');
-    let e = put_number(out, e, flag(b));
+    let e = put_number(out, e, u64::from(b));
     put_byte(out, e, b'\n')
 }
 
@@ -186,13 +162,4 @@ fn put_value_line(out: &mut [u8], at: usize, key: &[u8], v: Value) -> usize
     let e = put_bytes(out, at, key);
     let e = put_value(out, e, v);
     put_byte(out, e, b'\n')
-}
-
-fn flag(b: bool) -> u64
-    ensures { result ≡ flag b }
-{
-    if b {
-        return 1;
-    }
-    0
 }

@@ -1,11 +1,10 @@
 pub mod Tests
 pub mod Values
-pub mod Signed
 pub mod Lists
 pub mod Blocks
 pub mod Ops
 pub mod Sets
 pub mod Good
 pub mod Contents
-pub mod Registers
 pub mod Live
+pub mod Refusals

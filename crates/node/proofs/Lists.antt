@@ -28,15 +28,6 @@ module _ {A : Type 0} where
   firsts_get_d d (suc n) (x ∷ l) zero h = refl
   firsts_get_d d (suc n) (x ∷ l) (suc k) h = firsts_get_d d n l k (le_of_suc-le-suc h)
 
-  -- a list that is filled up with the default
-  pub firsts_filled : (d : A) (n : ℕ) (l : List A) (k : ℕ) → length l ≤ n → get_or (firsts d n l) k d ≡ get_or l k d
-  firsts_filled d zero [] k h = refl
-  firsts_filled d zero (x ∷ l) k h = absurd (not-suc-le-zero h)
-  firsts_filled d (suc n) [] zero h = refl
-  firsts_filled d (suc n) [] (suc k) h = firsts_filled d n [] k (omega arith)
-  firsts_filled d (suc n) (x ∷ l) zero h = refl
-  firsts_filled d (suc n) (x ∷ l) (suc k) h = firsts_filled d n l k (le_of_suc-le-suc h)
-
   -- one more element behind those that are there
   pub firsts_join : (d x : A) (n : ℕ) (l : List A) → n < length l → firsts d (suc n) (set l n x) ≡ firsts d n l ++ (x ∷ [])
   firsts_join d x n [] h = absurd (not-suc-le-zero h)

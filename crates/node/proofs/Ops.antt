@@ -2,21 +2,17 @@
 --   recv_word clause_word   the numbers of recv and clause are their places in the table
 --   kinds_length            how many operands an op has
 --   op_some                 a number is an op's exactly where it has operands
---   kind_at                 operand k of an op by its shape, whose operands are filled up to four
 use mathlib.Core.Bool.{Bool, true, false}
 use mathlib.Core.List.{List, [], ◌∷◌}
-use mathlib.Core.Path.{◌≡◌, refl, sym, ◌∙◌, ap}
-use Prim.Native.Nat.{ℕ, ◌≤◌}
+use mathlib.Core.Path.{◌≡◌, refl, sym, ap}
+use Prim.Native.Nat.{ℕ}
 use borrow.Author.Tests.{ltb-false, ltb-true}
 use lib.Dec.{ltb}
 use lib.ListN.{length, get_or, get_or-eq_default, get_or-map}
 use Rattle.node.specs.declared.OperandKind.{OperandKind}
-use Rattle.node.specs.declared.OperandKind.TheVariants.{NoOperand}
-use Rattle.node.specs.declared.Shape.{Shape}
-use Rattle.node.specs.Lists.{firsts}
-use Rattle.node.specs.Ops.{clause_op, kinds_in, kinds_of, op_count, operand_counts, operand_kind, op_kinds, op_words, recv_op}
+use Rattle.node.specs.Ops.{clause_op, kinds_of, op_count, operand_counts, op_kinds, op_words, recv_op}
 use Rattle.node.specs.Texts.{bytes}
-use Rattle.node.proofs.Lists.{all_from_at, firsts_filled}
+use Rattle.node.proofs.Lists.{all_from_at}
 
 pub recv_word : get_or op_words recv_op [] ≡ bytes "recv"
 recv_word = refl
@@ -39,9 +35,3 @@ op_some n = go (ltb n op_count) refl
     go : (t : Bool) → ltb n op_count ≡ t → t ≡ some (get_or op_kinds n [])
     go true e = sym (all_from_at (λ (k : ℕ) (ks : List OperandKind). some ks) 0 op_kinds n [] refl (ltb-true n op_count e))
     go false e = ap some (sym (get_or-eq_default op_kinds [] {n = n} (ltb-false n op_count e)))
-
-pub kind_at : (op k : ℕ) (x : Shape) {y : Shape} {r : OperandKind} → length (kinds_in x) ≤ 4 → kinds_in y ≡ kinds_of op → y ≡ x
-    → r ≡ get_or (firsts NoOperand 4 (kinds_in x)) k NoOperand → r ≡ operand_kind op k
-unfolding operand_kind
-kind_at op k x h q e v =
-    v ∙ firsts_filled NoOperand 4 (kinds_in x) k h ∙ ap (λ (ks : List OperandKind). get_or ks k NoOperand) (sym (ap kinds_in e) ∙ q)

@@ -2,21 +2,24 @@
 --   bits_of_with bits_of_without   the set with j, and without it, as sixteen answers
 --   has_none has_with_other has_without_false   who is in them
 --   lowest_start -here -next -end  the digits read one by one
+--   told_some told_none told_number   what `lowest` answers, read as a number
 --   lowest_number                  the lowest of a set that is not empty is a process number
 use mathlib.Core.Bool.{Bool, true, false, cond, false≢true}
 use mathlib.Core.List.{List, [], ◌∷◌}
 use mathlib.Core.Logic.{◌≢◌}
 use mathlib.Core.Path.{◌≡◌, refl, sym, ◌∙◌, ap}
+use Rattle.std.specs.Prelude.{None, Some}
 use Prim.Native.Nat.{ℕ, zero, suc, ◌+◌, ◌-◌, ◌*◌, ◌/◌, ◌%◌, ◌^◌, ◌≤◌, ◌<◌}
 use native.Mathlib.Nat.{not-suc-le-zero, le_of_suc-le-suc, pow-suc}
 use native.Mathlib.Omega.{arith}
-use borrow.Author.Tests.{eqb-true, eqb-false, eq-eqb, ne_eqb, lt-ltb, le-ltb, ltb-true, ltb-false}
+use borrow.Author.Tests.{eqb-true, eqb-false, lt-ltb, le-ltb, ltb-true, ltb-false}
 use lib.Dec.{eqb, ltb}
 use lib.ListN.{length, get_or, set, drop, replicate, get_or-eq_default, drop_of_length-le}
 use lib.Pow.{shr-shr, shl_exact}
 use lib.Seq.{set-get_or, set_out, get_or-set_other}
 use Rattle.node.specs.declared.Peers.{Peers}
-use Rattle.node.specs.Sets.{bits, bits_of, no_peers, has, with_peer, without_peer, first_from, lowest_peer}
+use Rattle.node.specs.declared.ProcessNumber.{ProcessNumber}
+use Rattle.node.specs.Sets.{bits, bits_of, no_peers, has, with_peer, without_peer, first_from, lowest_peer, peer_told}
 
 -- ---- digits
 
@@ -87,35 +90,41 @@ module _ (s : Peers) (j : ℕ) where
   unfolding has bits_of
   has_at h = bit_at 16 (j - 1) s.0 h
 
+  -- a member's number is within sixteen
+  pub has_inside : has s j ≡ true → j - 1 < 16
+  has_inside e = go (ltb (j - 1) 16) refl
+    where
+      go : (t : Bool) → ltb (j - 1) 16 ≡ t → j - 1 < 16
+      go true q = ltb-true (j - 1) 16 q
+      go false q = absurd (false≢true (sym (has_past (ltb-false (j - 1) 16 q)) ∙ e))
+
   pub with_past : 16 ≤ j - 1 → with_peer s j ≡ s
   unfolding with_peer
   with_past h = rw (le-ltb (j - 1) 16 h)
 
-  pub with_there : j - 1 < 16 → s.0 / 2 ^ (j - 1) % 2 ≡ 1 → with_peer s j ≡ s
-  unfolding with_peer has bits_of
-  with_there h e = rw (lt-ltb (j - 1) 16 h, has_at h, eq-eqb (s.0 / 2 ^ (j - 1) % 2) 1 e)
+  pub with_there : has s j ≡ true → with_peer s j ≡ s
+  unfolding with_peer has
+  with_there e = rw (lt-ltb (j - 1) 16 (has_inside e), e)
 
-  pub with_new : j - 1 < 16 → (s.0 / 2 ^ (j - 1) % 2 ≡ 1 → ⊥) → with_peer s j ≡ record { 0 = s.0 + 2 ^ (j - 1) }
-  unfolding with_peer has bits_of
-  with_new h e = rw (lt-ltb (j - 1) 16 h, has_at h, ne_eqb (s.0 / 2 ^ (j - 1) % 2) 1 e)
+  pub with_new : j - 1 < 16 → has s j ≡ false → with_peer s j ≡ record { 0 = s.0 + 2 ^ (j - 1) }
+  unfolding with_peer has
+  with_new h e = rw (lt-ltb (j - 1) 16 h, e)
 
-  pub without_past : 16 ≤ j - 1 → without_peer s j ≡ s
+  pub without_there : has s j ≡ true → without_peer s j ≡ record { 0 = s.0 - 2 ^ (j - 1) }
   unfolding without_peer has
-  without_past h = rw (has_past h)
+  without_there e = rw e
 
-  pub without_there : j - 1 < 16 → s.0 / 2 ^ (j - 1) % 2 ≡ 1 → without_peer s j ≡ record { 0 = s.0 - 2 ^ (j - 1) }
-  unfolding without_peer has bits_of
-  without_there h e = rw (has_at h, eq-eqb (s.0 / 2 ^ (j - 1) % 2) 1 e)
+  pub without_none : has s j ≡ false → without_peer s j ≡ s
+  unfolding without_peer has
+  without_none e = rw e
 
-  pub without_none : j - 1 < 16 → (s.0 / 2 ^ (j - 1) % 2 ≡ 1 → ⊥) → without_peer s j ≡ s
-  unfolding without_peer has bits_of
-  without_none h e = rw (has_at h, ne_eqb (s.0 / 2 ^ (j - 1) % 2) 1 e)
+  pub new_fits : j - 1 < 16 → s.0 < 65536 → has s j ≡ false → s.0 + 2 ^ (j - 1) < 65536
+  unfolding has bits_of
+  new_fits h f e = with_fits 16 (j - 1) s.0 h f e
 
-  pub new_fits : j - 1 < 16 → s.0 < 65536 → (s.0 / 2 ^ (j - 1) % 2 ≡ 1 → ⊥) → s.0 + 2 ^ (j - 1) < 65536
-  new_fits h f e = with_fits 16 (j - 1) s.0 h f (bit_at 16 (j - 1) s.0 h ∙ ne_eqb (s.0 / 2 ^ (j - 1) % 2) 1 e)
-
-  pub there_least : j - 1 < 16 → s.0 / 2 ^ (j - 1) % 2 ≡ 1 → 2 ^ (j - 1) ≤ s.0
-  there_least h e = (bits_without 16 (j - 1) s.0 h (bit_at 16 (j - 1) s.0 h ∙ eq-eqb (s.0 / 2 ^ (j - 1) % 2) 1 e)).0
+  pub there_least : has s j ≡ true → 2 ^ (j - 1) ≤ s.0
+  unfolding has bits_of
+  there_least e = (bits_without 16 (j - 1) s.0 (has_inside e) e).0
 
 -- ---- the sets as sixteen answers
 
@@ -205,21 +214,43 @@ pub lowest_start : (s : Peers) → lowest_peer s ≡ first_from 1 (drop 0 (bits_
 unfolding lowest_peer
 lowest_start s = refl
 
-module _ (s : Peers) (k : ℕ) where
-  pub lowest_here : k < 16 → s.0 / 2 ^ k % 2 ≡ 1 → first_from (k + 1) (drop k (bits_of s)) ≡ k + 1
-  unfolding bits_of
-  lowest_here h e = first_here (bits 16 s.0) k (rw (bits_length 16 s.0) h) (bit_at 16 k s.0 h ∙ eq-eqb (s.0 / 2 ^ k % 2) 1 e)
+-- and so on from process j
+module _ (s : Peers) (j : ℕ) (least : 1 ≤ j) where
+  back : j - 1 + 1 ≡ j
+  back = omega arith
 
-  pub lowest_next : k < 16 → (s.0 / 2 ^ k % 2 ≡ 1 → ⊥) → first_from (k + 1) (drop k (bits_of s)) ≡ first_from (k + 1 + 1) (drop (k + 1) (bits_of s))
-  unfolding bits_of
+  pub lowest_here : j ≤ 16 → has s j ≡ true → first_from j (drop (j - 1) (bits_of s)) ≡ j
+  unfolding has
+  lowest_here h e =
+      ap (λ (i : ℕ). first_from i (drop (j - 1) (bits_of s))) (sym back)
+      ∙ first_here (bits_of s) (j - 1) (rw (bits_of_length s) (omega arith)) e
+      ∙ back
+
+  pub lowest_next : j ≤ 16 → has s j ≡ false → first_from j (drop (j - 1) (bits_of s)) ≡ first_from (j + 1) (drop (j + 1 - 1) (bits_of s))
+  unfolding has
   lowest_next h e =
-      let x : k + 2 ≡ k + 1 + 1 = omega arith in
-      first_next (bits 16 s.0) k (rw (bits_length 16 s.0) h) (bit_at 16 k s.0 h ∙ ne_eqb (s.0 / 2 ^ k % 2) 1 e)
-      ∙ ap (λ (i : ℕ). first_from i (drop (k + 1) (bits 16 s.0))) x
+      let x : j - 1 + 2 ≡ j + 1 = omega arith in
+      let y : j - 1 + 1 ≡ j + 1 - 1 = omega arith in
+      ap (λ (i : ℕ). first_from i (drop (j - 1) (bits_of s))) (sym back)
+      ∙ first_next (bits_of s) (j - 1) (rw (bits_of_length s) (omega arith)) e
+      ∙ ap (λ (i : ℕ). first_from i (drop (j - 1 + 1) (bits_of s))) x
+      ∙ ap (λ (i : ℕ). first_from (j + 1) (drop i (bits_of s))) y
 
-  pub lowest_end : 16 ≤ k → first_from (k + 1) (drop k (bits_of s)) ≡ 0
-  unfolding bits_of
-  lowest_end h = ap (first_from (k + 1)) (drop_of_length-le (bits 16 s.0) {i = k} (rw (bits_length 16 s.0) h))
+  pub lowest_end : 17 ≤ j → first_from j (drop (j - 1) (bits_of s)) ≡ 0
+  lowest_end h = ap (first_from j) (drop_of_length-le (bits_of s) {i = j - 1} (rw (bits_of_length s) (omega arith)))
+
+-- what `lowest` answers, read as a number
+pub told_some : (n : ℕ) (j : ProcessNumber) → peer_told n ≡ Some j → (n ≡ j.0) × (0 < n)
+told_some zero j e = cc
+told_some (suc n) j e = (cc, omega arith)
+
+pub told_none : (n : ℕ) → peer_told n ≡ None → n ≡ 0
+told_none zero e = refl
+told_none (suc n) e = cc
+
+pub told_number : (n : ℕ) → 1 ≤ n → peer_told n ≡ Some (record { 0 = n })
+told_number zero h = absurd (not-suc-le-zero h)
+told_number (suc n) h = refl
 
 first_range : (i : ℕ) (l : List Bool) (j : ℕ) → first_from i l ≡ suc j → (i ≤ suc j) × (suc j < i + length l)
 first_range i [] j e = absurd (let z : 0 ≡ suc j = e in omega arith)

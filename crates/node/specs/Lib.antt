@@ -9,3 +9,4 @@ pub mod Mailboxes
 pub mod Rows
 pub mod Nodes
 pub mod Starts
+pub mod Refusals

@@ -5,9 +5,11 @@
 --   has s j         process j is in the set
 --   with_peer s j    the set with process j;  without_peer s j  the set without it
 --   lowest_peer s    the lowest number in the set, 0 where it is empty
+--   peer_told n      a number as the code tells it: none for 0, and else the process of that number
 -- Number 0 is read as 1, and a number above 16 is never in a set and never joins one; neither occurs in a sound node.
-use Rattle.std.specs.Prelude.{Bool, false, cond, List, [], ◌∷◌, ℕ, zero, suc, ◌+◌, ◌-◌, ◌/◌, ◌%◌, ◌^◌, eqb, ltb, get_or}
+use Rattle.std.specs.Prelude.{Bool, false, cond, List, [], ◌∷◌, Option, None, Some, ℕ, zero, suc, ◌+◌, ◌-◌, ◌/◌, ◌%◌, ◌^◌, eqb, ltb, get_or}
 use Rattle.node.specs.declared.Peers.{Peers}
+use Rattle.node.specs.declared.ProcessNumber.{ProcessNumber}
 
 abbrev pub bits : ℕ → ℕ → List Bool
 bits zero b = []
@@ -35,3 +37,8 @@ first_from k (b ∷ l) = cond b k (first_from (k + 1) l)
 
 unfoldable pub lowest_peer : Peers → ℕ
 lowest_peer s = first_from 1 (bits_of s)
+
+-- the answer of `lowest`, by its number
+abbrev pub peer_told : ℕ → Option ProcessNumber
+peer_told zero = None
+peer_told (suc n) = Some (record { 0 = suc n })

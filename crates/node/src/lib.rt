@@ -8,22 +8,23 @@ ghost use Rattle.node.specs.Processes.{unborn, fresh, register, with_register, w
 ghost use Rattle.node.specs.Processes.{links_to, linked, unlinked, with_links, ended, gone, with_stage};
 ghost use Rattle.node.specs.Processes.{watches_over, watching, unwatching, watched_by, watched, unwatched, with_watches, with_watchers};
 ghost use Rattle.node.specs.Values.{is_number, value_sound, kind_of, message_kind, number_in, same_value};
-ghost use Rattle.node.specs.Sets.{no_peers, has, with_peer, without_peer, lowest_peer};
+ghost use Rattle.node.specs.Sets.{no_peers, has, with_peer, without_peer, lowest_peer, peer_told};
 ghost use Rattle.node.specs.Mailboxes.{no_message};
 ghost use Rattle.node.specs.Rows.{no_signal};
 ghost use Rattle.node.specs.Nodes.{blank_node, no_op};
+ghost use Rattle.node.specs.Refusals.{refusal_number};
 ghost use Rattle.node.specs.Starts.{node_behaviours, node_starts, row_of, row_with, start_of};
 
 // A process number (process identifier), 1 to 16.
-#[derive(Clone, Copy)]
+#[derive(Clone, Copy, Debug, PartialEq, Eq)]
 pub struct ProcessNumber(pub u8);
 
 // A behaviour number, 1 to 8. A behaviour is the code that a process runs.
-#[derive(Clone, Copy)]
+#[derive(Clone, Copy, Debug, PartialEq, Eq)]
 pub struct BehaviourNumber(pub u8);
 
 // A value: an integer `i`, an atom `a` or a process number `p`. The types i32 and u8 hold just the limits of `i` and of `a`.
-#[derive(Clone, Copy)]
+#[derive(Clone, Copy, Debug, PartialEq, Eq)]
 pub enum Value {
     Int(i32),
     Atom(u8),
@@ -68,7 +69,7 @@ impl Value {
 }
 
 // A message in a mailbox: a plain value, or, with its sender and the exit reason, a note (the field's 'EXIT' message) or a down (its 'DOWN').
-#[derive(Clone, Copy)]
+#[derive(Clone, Copy, Debug, PartialEq, Eq)]
 pub enum Message {
     Plain(Value),
     Note(ProcessNumber, Value),
@@ -88,7 +89,7 @@ impl Message {
 }
 
 // A signal in flight. The bool of an exit signal says that it was sent along a link.
-#[derive(Clone, Copy)]
+#[derive(Clone, Copy, Debug, PartialEq, Eq)]
 pub enum Signal {
     Msg(Value),
     Exit(Value, bool),
@@ -101,7 +102,7 @@ pub enum Signal {
 
 // An op (instruction) by its number in document 01's table; the fields that it does not have as operands are not read. The value stands
 // last, so that an op takes 16 bytes and not 20.
-#[derive(Clone, Copy)]
+#[derive(Clone, Copy, Debug, PartialEq, Eq)]
 pub struct Op {
     pub number: u8,
     pub r: u8,
@@ -116,7 +117,7 @@ pub struct Op {
 
 // What an operand is, with document 01's letter for it: a register, a value, a place, a behaviour number, a process number, a flag, a count of
 // clauses, a clause's kind.
-#[derive(Clone, Copy)]
+#[derive(Clone, Copy, Debug, PartialEq, Eq)]
 pub enum OperandKind {
     NoOperand,
     RegisterR,
@@ -131,7 +132,7 @@ pub enum OperandKind {
 }
 
 // What operands an op has, in their order; ops with the same operands share a shape.
-#[derive(Clone, Copy)]
+#[derive(Clone, Copy, Debug, PartialEq, Eq)]
 pub enum Shape {
     Nothing,
     R,
@@ -147,11 +148,11 @@ pub enum Shape {
 }
 
 // A set of processes as one number: process k + 1 is in it where bit k is set.
-#[derive(Clone, Copy)]
+#[derive(Clone, Copy, Debug, PartialEq, Eq)]
 pub struct Peers(pub u16);
 
 // Closing is an exiting process that has still to tell its links and its watchers.
-#[derive(Clone, Copy)]
+#[derive(Clone, Copy, Debug, PartialEq, Eq)]
 pub enum Stage {
     Unborn,
     Live,
@@ -160,7 +161,7 @@ pub enum Stage {
 }
 
 // A process. What its stage does not hold is not read.
-#[derive(Clone, Copy)]
+#[derive(Clone, Copy, Debug, PartialEq, Eq)]
 pub struct Process {
     pub stage: Stage,
     pub behaviour: BehaviourNumber,
@@ -179,12 +180,12 @@ pub struct Process {
     pub reason: Value,
 }
 
-#[derive(Clone, Copy)]
+#[derive(Clone, Copy, Debug, PartialEq, Eq)]
 pub struct Slot {
     pub message: Message,
 }
 
-#[derive(Clone, Copy)]
+#[derive(Clone, Copy, Debug, PartialEq, Eq)]
 pub struct Cell {
     pub signal: Signal,
 }
@@ -214,7 +215,7 @@ pub struct Behaviours {
 }
 
 // A process that a plan starts, and the behaviour that it starts with.
-#[derive(Clone, Copy)]
+#[derive(Clone, Copy, Debug, PartialEq, Eq)]
 pub struct Start {
     pub process: ProcessNumber,
     pub behaviour: BehaviourNumber,
@@ -227,41 +228,56 @@ pub struct Starts {
     pub list: [Start; 16],
 }
 
-// A step by its kind: 0 is `run owner`, 1 is `arrive owner from from`, 2 is `timeout owner`.
-#[derive(Clone, Copy)]
+// A step by its kind: 0 is `run owner`, 1 is `arrive owner from from`, 2 is `timeout owner`. A record and no enum: the step that the definition
+// `play` of the rules reads may have any kind, and one above 2 is refused with a number.
+#[derive(Clone, Copy, Debug, PartialEq, Eq)]
 pub struct Step {
     pub kind: u8,
     pub owner: ProcessNumber,
     pub from: ProcessNumber,
 }
 
-// What the schedule writer is told of a step that is refused (document 01, "The three hands").
-pub const BAD_NUMBER: u8 = 20;
+// What the schedule writer is told of a step that is refused, and the caller of a call (document 01, "The three hands").
+#[derive(Clone, Copy, Debug, PartialEq, Eq)]
+pub enum Refusal {
+    BadNumber,
+    OwnerUnborn,
+    OwnerGone,
+    NoneInFlight,
+    MailboxFull,
+    MailboxEmpty,
+    PairFull,
+    NotUnborn,
+    NoTimeout,
+    NoFit,
+    // The output is shorter than what is to be written.
+    OutputShort,
+    NotSound,
+    ScheduleTooLong,
+}
 
-pub const OWNER_UNBORN: u8 = 21;
-
-pub const OWNER_GONE: u8 = 22;
-
-pub const NONE_IN_FLIGHT: u8 = 23;
-
-pub const MAILBOX_FULL: u8 = 24;
-
-pub const MAILBOX_EMPTY: u8 = 25;
-
-pub const PAIR_FULL: u8 = 26;
-
-pub const NOT_UNBORN: u8 = 27;
-
-pub const NO_TIMEOUT: u8 = 28;
-
-pub const NO_FIT: u8 = 29;
-
-// What the caller is told: the output is shorter than what is to be written, the node is not sound, the schedule has too many steps.
-pub const OUTPUT_SHORT: u8 = 30;
-
-pub const NOT_SOUND: u8 = 31;
-
-pub const SCHEDULE_TOO_LONG: u8 = 32;
+impl Refusal {
+    // The number that it is told by.
+    pub fn number(self) -> u8
+        ensures { result ≡ refusal_number self }
+    {
+        match self {
+            Refusal::BadNumber => 20,
+            Refusal::OwnerUnborn => 21,
+            Refusal::OwnerGone => 22,
+            Refusal::NoneInFlight => 23,
+            Refusal::MailboxFull => 24,
+            Refusal::MailboxEmpty => 25,
+            Refusal::PairFull => 26,
+            Refusal::NotUnborn => 27,
+            Refusal::NoTimeout => 28,
+            Refusal::NoFit => 29,
+            Refusal::OutputShort => 30,
+            Refusal::NotSound => 31,
+            Refusal::ScheduleTooLong => 32,
+        }
+    }
+}
 
 // The number of ops, and the numbers of those that others look for.
 pub const OPS: u8 = 19;
@@ -273,7 +289,7 @@ pub const CLAUSE: u8 = 11;
 pub const AFTER: u8 = 18;
 
 // The kinds of a clause: one exact value, every message, then the kinds of messages. The exact value has the first number, so that a new
-// kind moves none.
+// kind moves none. They are numbers and no enum, since `Op` holds a clause's kind in its byte `small`, and `kind_of` and `message_kind` say numbers.
 pub const EXACT: u8 = 0;
 
 pub const ANY: u8 = 1;
@@ -321,79 +337,76 @@ const SHAPES: [Shape; 19] = [
 pub fn is_part(op: u8) -> bool
     ensures { result ≡ is_part op }
 {
-    if op == CLAUSE {
-        return true;
-    }
-    op == AFTER
+    op == CLAUSE || op == AFTER
 }
 
 // The number of operands of an op; 0 for a number that is no op.
 pub fn operand_count(op: u8) -> u8
     ensures { result ≡ get_or operand_counts op 0 }
 {
-    if op < OPS {
-        let k = op as usize;
-        return OPERANDS[k];
-    }
-    0
+    OPERANDS.get(op as usize).copied().unwrap_or(0)
 }
 
 // What operands an op has; nothing for a number that is no op.
 pub fn shape_of(op: u8) -> Shape
     ensures { kinds_in result ≡ kinds_of op }
 {
-    if op < OPS {
-        let k = op as usize;
-        return SHAPES[k];
-    }
-    Shape::Nothing
+    SHAPES.get(op as usize).copied().unwrap_or(Shape::Nothing)
 }
 
 // What operand k of an op is.
 pub fn operand_kind(op: u8, k: u8) -> OperandKind
     ensures { result ≡ operand_kind op k }
 {
-    let no = OperandKind::NoOperand;
-    let r = OperandKind::RegisterR;
-    let s = OperandKind::RegisterS;
-    let v = OperandKind::ValueV;
-    let t = OperandKind::PlaceT;
-    let shape = shape_of(op);
-    match shape {
-        Shape::Nothing => one_of(k, no, no, no, no),
-        Shape::R => one_of(k, r, no, no, no),
-        Shape::RS => one_of(k, r, s, no, no),
-        Shape::RV => one_of(k, r, v, no, no),
-        Shape::F => one_of(k, OperandKind::FlagF, no, no, no),
-        Shape::RBQ => one_of(k, r, OperandKind::BehaviourB, OperandKind::ProcessQ, no),
-        Shape::N => one_of(k, OperandKind::CountN, no, no, no),
-        Shape::KRST => one_of(k, OperandKind::KindK, r, s, t),
-        Shape::T => one_of(k, t, no, no, no),
-        Shape::RVT => one_of(k, r, v, t, no),
-        Shape::RST => one_of(k, r, s, t, no),
-    }
+    let kinds = shape_of(op).operands();
+    kinds
+        .get(k as usize)
+        .copied()
+        .unwrap_or(OperandKind::NoOperand)
 }
 
-// Number k of four.
-fn one_of(k: u8, a: OperandKind, b: OperandKind, c: OperandKind, d: OperandKind) -> OperandKind
-    ensures { result ≡ get_or (a ∷ b ∷ c ∷ d ∷ []) k NoOperand }
-{
-    match k {
-        0 => a,
-        1 => b,
-        2 => c,
-        3 => d,
-        _ => OperandKind::NoOperand,
+impl Shape {
+    // What operands an op of this shape has, in their order.
+    fn operands(self) -> &'static [OperandKind]
+        ensures { result.now ≡ kinds_in self }
+    {
+        match self {
+            Shape::Nothing => &[],
+            Shape::R => &[OperandKind::RegisterR],
+            Shape::RS => &[OperandKind::RegisterR, OperandKind::RegisterS],
+            Shape::RV => &[OperandKind::RegisterR, OperandKind::ValueV],
+            Shape::F => &[OperandKind::FlagF],
+            Shape::RBQ => &[
+                OperandKind::RegisterR,
+                OperandKind::BehaviourB,
+                OperandKind::ProcessQ,
+            ],
+            Shape::N => &[OperandKind::CountN],
+            Shape::KRST => &[
+                OperandKind::KindK,
+                OperandKind::RegisterR,
+                OperandKind::RegisterS,
+                OperandKind::PlaceT,
+            ],
+            Shape::T => &[OperandKind::PlaceT],
+            Shape::RVT => &[
+                OperandKind::RegisterR,
+                OperandKind::ValueV,
+                OperandKind::PlaceT,
+            ],
+            Shape::RST => &[
+                OperandKind::RegisterR,
+                OperandKind::RegisterS,
+                OperandKind::PlaceT,
+            ],
+        }
     }
 }
 
 pub fn within(n: u8, least: u8, most: u8) -> bool
     ensures { result ≡ (leb least n && leb n most) }
 {
-    if n < least {
-        return false;
-    }
-    n <= most
+    least <= n && n <= most
 }
 
 pub fn is_number(i: u8) -> bool
@@ -406,12 +419,8 @@ pub fn value_sound(v: Value) -> bool
     ensures { result ≡ value_sound v }
 {
     match v {
-        Value::Int(_i) => true,
-        Value::Atom(_a) => true,
-        Value::Pid(j) => {
-            let i = j.0;
-            is_number(i)
-        }
+        Value::Int(_) | Value::Atom(_) => true,
+        Value::Pid(j) => is_number(j.0),
     }
 }
 
@@ -419,39 +428,30 @@ pub fn value_sound(v: Value) -> bool
 pub fn same_value(a: Value, b: Value) -> bool
     ensures { result ≡ same_value a b }
 {
-    if a.kind() == b.kind() {
-        return a.number() == b.number();
-    }
-    false
+    a == b
 }
 
 // One more, held at the top of a byte, so that no count or place wraps.
 pub fn risen(n: u8) -> u8
     ensures { result ≡ min (n + 1) 255 }
 {
-    if n < 255 {
-        return n + 1;
-    }
-    n
+    n.saturating_add(1)
 }
 
 // One less, held at 0.
 pub fn fallen(n: u8) -> u8
     ensures { result ≡ n - 1 }
 {
-    if 0 < n {
-        return n - 1;
-    }
-    0
+    n.saturating_sub(1)
 }
 
+// Process and behaviour numbers are types of their own, so each has its `index`: a trait for this one line would be no plainer.
 impl ProcessNumber {
     // Where the process stands in an array of all; number 0 is read as 1.
     pub fn index(self) -> usize
         ensures { result ≡ self.0 - 1 }
     {
-        let n = self.0;
-        fallen(n) as usize
+        fallen(self.0) as usize
     }
 }
 
@@ -460,8 +460,7 @@ impl BehaviourNumber {
     pub fn index(self) -> usize
         ensures { result ≡ self.0 - 1 }
     {
-        let n = self.0;
-        fallen(n) as usize
+        fallen(self.0) as usize
     }
 }
 
@@ -477,10 +476,7 @@ impl Peers {
         ensures { result ≡ has self j.0 }
     {
         let k = j.index();
-        if k < 16 {
-            return (self.0 >> k) % 2 == 1;
-        }
-        false
+        k < 16 && (self.0 >> k) % 2 == 1
     }
 
     // Process j joins.
@@ -488,10 +484,7 @@ impl Peers {
         ensures { result ≡ with_peer self j.0 }
     {
         let k = j.index();
-        if 16 <= k {
-            return self;
-        }
-        if (self.0 >> k) % 2 == 1 {
+        if 16 <= k || self.has(j) {
             return self;
         }
         Peers(self.0 + (1 << k))
@@ -501,28 +494,23 @@ impl Peers {
     pub fn without(self, j: ProcessNumber) -> Peers
         ensures { result ≡ without_peer self j.0 }
     {
-        let k = j.index();
-        if 16 <= k {
+        if !self.has(j) {
             return self;
         }
-        if (self.0 >> k) % 2 == 1 {
-            return Peers(self.0 - (1 << k));
-        }
-        self
+        Peers(self.0 - (1 << j.index()))
     }
 
-    // The lowest number in the set; 0 where it is empty.
-    pub fn lowest(self) -> ProcessNumber
-        ensures { result.0 ≡ lowest_peer self }
+    // The lowest number in the set, where it is not empty.
+    pub fn lowest(self) -> Option<ProcessNumber>
+        ensures { result ≡ peer_told (lowest_peer self) }
     {
-        let mut k: u8 = 0;
-        while k < 16 {
-            if (self.0 >> k) % 2 == 1 {
-                return ProcessNumber(k + 1);
+        for k in 1..=16 {
+            let j = ProcessNumber(k);
+            if self.has(j) {
+                return Some(j);
             }
-            k += 1;
         }
-        ProcessNumber(0)
+        None
     }
 }
 
@@ -549,13 +537,7 @@ impl Op {
     {
         Op {
             number: 15,
-            r: 0,
-            s: 0,
-            target: 0,
-            small: 0,
-            value: Value::ZERO,
-            process: ProcessNumber(0),
-            behaviour: BehaviourNumber(0),
+            ..Op::blank()
         }
     }
 }
@@ -585,20 +567,11 @@ impl Process {
     pub fn fresh(b: BehaviourNumber, first: Value) -> Process
         ensures { result ≡ fresh b first }
     {
-        let none = Peers::none();
         Process {
             stage: Stage::Live,
             behaviour: b,
-            place: 0,
             r0: first,
-            r1: Value::ZERO,
-            r2: Value::ZERO,
-            r3: Value::ZERO,
-            trap: false,
-            links: none,
-            watches: none,
-            watchers: none,
-            reason: Value::ZERO,
+            ..Process::unborn()
         }
     }
 
@@ -614,44 +587,14 @@ impl Process {
         }
     }
 
-    // All four registers anew.
-    fn with_registers(self, a: Value, b: Value, c: Value, d: Value) -> Process
-        ensures { result ≡ with_registers self a b c d }
-    {
-        let stage = self.stage;
-        let behaviour = self.behaviour;
-        let links = self.links;
-        let watches = self.watches;
-        let watchers = self.watchers;
-        let reason = self.reason;
-        Process {
-            stage: stage,
-            behaviour: behaviour,
-            place: self.place,
-            r0: a,
-            r1: b,
-            r2: c,
-            r3: d,
-            trap: self.trap,
-            links: links,
-            watches: watches,
-            watchers: watchers,
-            reason: reason,
-        }
-    }
-
     pub fn with_register(self, r: u8, v: Value) -> Process
         ensures { result ≡ with_register self r v }
     {
-        let a = self.r0;
-        let b = self.r1;
-        let c = self.r2;
-        let d = self.r3;
         match r {
-            0 => self.with_registers(v, b, c, d),
-            1 => self.with_registers(a, v, c, d),
-            2 => self.with_registers(a, b, v, d),
-            _ => self.with_registers(a, b, c, v),
+            0 => Process { r0: v, ..self },
+            1 => Process { r1: v, ..self },
+            2 => Process { r2: v, ..self },
+            _ => Process { r3: v, ..self },
         }
     }
 
@@ -665,8 +608,7 @@ impl Process {
     pub fn advanced(mut self) -> Process
         ensures { result ≡ advanced self }
     {
-        let place = self.place;
-        self.place = risen(place);
+        self.place = risen(self.place);
         self
     }
 
@@ -677,32 +619,27 @@ impl Process {
         self
     }
 
+    // Links, watches and watchers are three fields with the same three methods each, by the names that the rules give them (`linked`, `watching`,
+    // `watched` ..): one method with the field as a parameter would need a getter and a setter beside it, and be no plainer.
+
     // Whether j is a link.
     pub fn links_to(self, j: ProcessNumber) -> bool
         ensures { result ≡ links_to self j.0 }
     {
-        let links = self.links;
-        links.has(j)
+        self.links.has(j)
     }
 
-    pub fn linked(self, j: ProcessNumber) -> Process
+    pub fn linked(mut self, j: ProcessNumber) -> Process
         ensures { result ≡ linked self j.0 }
     {
-        let links = self.links;
-        self.with_links(links.with(j))
+        self.links = self.links.with(j);
+        self
     }
 
-    pub fn unlinked(self, j: ProcessNumber) -> Process
+    pub fn unlinked(mut self, j: ProcessNumber) -> Process
         ensures { result ≡ unlinked self j.0 }
     {
-        let links = self.links;
-        self.with_links(links.without(j))
-    }
-
-    fn with_links(mut self, links: Peers) -> Process
-        ensures { result ≡ with_links self links }
-    {
-        self.links = links;
+        self.links = self.links.without(j);
         self
     }
 
@@ -710,30 +647,22 @@ impl Process {
     pub fn watches_over(self, j: ProcessNumber) -> bool
         ensures { result ≡ watches_over self j.0 }
     {
-        let watches = self.watches;
-        watches.has(j)
+        self.watches.has(j)
     }
 
     // The process begins to watch j.
-    pub fn watching(self, j: ProcessNumber) -> Process
+    pub fn watching(mut self, j: ProcessNumber) -> Process
         ensures { result ≡ watching self j.0 }
     {
-        let watches = self.watches;
-        self.with_watches(watches.with(j))
+        self.watches = self.watches.with(j);
+        self
     }
 
     // The watch on j is over.
-    pub fn unwatching(self, j: ProcessNumber) -> Process
+    pub fn unwatching(mut self, j: ProcessNumber) -> Process
         ensures { result ≡ unwatching self j.0 }
     {
-        let watches = self.watches;
-        self.with_watches(watches.without(j))
-    }
-
-    fn with_watches(mut self, watches: Peers) -> Process
-        ensures { result ≡ with_watches self watches }
-    {
-        self.watches = watches;
+        self.watches = self.watches.without(j);
         self
     }
 
@@ -741,30 +670,22 @@ impl Process {
     pub fn watched_by(self, j: ProcessNumber) -> bool
         ensures { result ≡ watched_by self j.0 }
     {
-        let watchers = self.watchers;
-        watchers.has(j)
+        self.watchers.has(j)
     }
 
     // j becomes a watcher.
-    pub fn watched(self, j: ProcessNumber) -> Process
+    pub fn watched(mut self, j: ProcessNumber) -> Process
         ensures { result ≡ watched self j.0 }
     {
-        let watchers = self.watchers;
-        self.with_watchers(watchers.with(j))
+        self.watchers = self.watchers.with(j);
+        self
     }
 
     // j is a watcher no longer.
-    pub fn unwatched(self, j: ProcessNumber) -> Process
+    pub fn unwatched(mut self, j: ProcessNumber) -> Process
         ensures { result ≡ unwatched self j.0 }
     {
-        let watchers = self.watchers;
-        self.with_watchers(watchers.without(j))
-    }
-
-    fn with_watchers(mut self, watchers: Peers) -> Process
-        ensures { result ≡ with_watchers self watchers }
-    {
-        self.watchers = watchers;
+        self.watchers = self.watchers.without(j);
         self
     }
 
@@ -772,53 +693,27 @@ impl Process {
     pub fn ended(self, v: Value) -> Process
         ensures { result ≡ ended self v }
     {
-        self.with_stage(Stage::Closing, v)
+        Process {
+            stage: Stage::Closing,
+            reason: v,
+            ..self
+        }
     }
 
-    pub fn gone(self) -> Process
+    pub fn gone(mut self) -> Process
         ensures { result ≡ gone self }
     {
-        let reason = self.reason;
-        self.with_stage(Stage::Gone, reason)
+        self.stage = Stage::Gone;
+        self
     }
 
     // How many messages the process holds, of those that its mailbox counts: all where it is live, none in any other stage.
     pub fn mail_count(self, waiting: u8) -> u8
         ensures { result ≡ mail_count self.stage waiting }
     {
-        let stage = self.stage;
-        match stage {
-            Stage::Unborn => 0,
+        match self.stage {
             Stage::Live => waiting,
-            Stage::Closing => 0,
-            Stage::Gone => 0,
-        }
-    }
-
-    fn with_stage(self, s: Stage, v: Value) -> Process
-        ensures { result ≡ with_stage self s v }
-    {
-        let behaviour = self.behaviour;
-        let a = self.r0;
-        let b = self.r1;
-        let c = self.r2;
-        let d = self.r3;
-        let links = self.links;
-        let watches = self.watches;
-        let watchers = self.watchers;
-        Process {
-            stage: s,
-            behaviour: behaviour,
-            place: self.place,
-            r0: a,
-            r1: b,
-            r2: c,
-            r3: d,
-            trap: self.trap,
-            links: links,
-            watches: watches,
-            watchers: watchers,
-            reason: v,
+            Stage::Unborn | Stage::Closing | Stage::Gone => 0,
         }
     }
 }
@@ -861,28 +756,18 @@ impl Starts {
     }
 
     // The start of process p, whose number is i, behind the others, where p is live.
-    fn with_live(self, i: u8, p: Process) -> Starts
+    fn with_live(mut self, i: u8, p: Process) -> Starts
         requires { self.count < 16 }
         ensures { result ≡ row_with p.stage self (start_of i p) }
     {
-        let mut row = self;
-        let stage = p.stage;
-        match stage {
-            Stage::Unborn => row,
-            Stage::Live => {
-                let k = row.count as usize;
-                let behaviour = p.behaviour;
-                let start = Start {
-                    process: ProcessNumber(i),
-                    behaviour,
-                };
-                row.list[k] = start;
-                row.count += 1;
-                row
-            }
-            Stage::Closing => row,
-            Stage::Gone => row,
+        if p.stage == Stage::Live {
+            self.list[self.count as usize] = Start {
+                process: ProcessNumber(i),
+                behaviour: p.behaviour,
+            };
+            self.count += 1;
         }
+        self
     }
 }
 
@@ -890,13 +775,13 @@ impl Node {
     pub fn behaviours(self) -> Behaviours
         ensures { result ≡ node_behaviours self }
     {
-        let lens = self.lens;
-        let ops = self.ops;
-        Behaviours {
-            count: self.count,
+        let Node {
+            count,
             lens,
             ops,
-        }
+            ..
+        } = self;
+        Behaviours { count, lens, ops }
     }
 
     // Its live processes, rising, each with its behaviour: of a node that a load gave, the starts of its plan.
@@ -904,11 +789,8 @@ impl Node {
         ensures { result ≡ node_starts self }
     {
         let mut row = Starts::none();
-        let mut k: u8 = 0;
-        while k < 16 {
-            let p = self.processes[k as usize];
-            row = row.with_live(k + 1, p);
-            k += 1;
+        for (k, p) in self.processes.iter().enumerate() {
+            row = row.with_live(k as u8 + 1, *p);
         }
         row
     }
@@ -917,19 +799,15 @@ impl Node {
     pub fn blank() -> Node
         ensures { result ≡ blank_node }
     {
-        let stop = Op::stop();
-        let process = Process::unborn();
-        let slot = Slot::blank();
-        let cell = Cell::blank();
         Node {
             count: 1,
             lens: [1, 0, 0, 0, 0, 0, 0, 0],
-            ops: [stop; 256],
-            processes: [process; 16],
+            ops: [Op::stop(); 256],
+            processes: [Process::unborn(); 16],
             waiting: [0; 16],
-            slots: [slot; 256],
+            slots: [Slot::blank(); 256],
             counts: [0; 256],
-            cells: [cell; 1024],
+            cells: [Cell::blank(); 1024],
         }
     }
 }

@@ -3,10 +3,11 @@
 --   clauses_few clauses_begin clause_stop clause_more clauses_end   the loop over the clauses of a recv
 --   in_begin in_stop in_more in_end       the loop over the ops of a behaviour
 --   from_stop from_more from_end          the loop over the behaviours
+use Rattle.std.specs.Prelude.{None, Some}
 use mathlib.Core.Bool.{Bool, true, false, not, cond, and-true}
 use mathlib.Core.List.{List, []}
-use mathlib.Core.Path.{◌≡◌, sym, ◌∙◌, ap}
-use Prim.Native.Nat.{ℕ, ◌+◌, ◌-◌, ◌*◌, ◌≤◌, ◌<◌}
+use mathlib.Core.Path.{◌≡◌, refl, sym, ◌∙◌, ap}
+use Prim.Native.Nat.{ℕ, zero, suc, ◌+◌, ◌-◌, ◌*◌, ◌≤◌, ◌<◌}
 use native.Mathlib.Numerals.{add-one}
 use native.Mathlib.Omega.{arith}
 use borrow.Author.Tests.{eq-eqb, ne_eqb, le-leb, lt-leb}
@@ -16,12 +17,12 @@ use lib.Seq.{drop-cons, get_or-take, get_or-drop}
 use Rattle.node.specs.declared.Op.{Op}
 use Rattle.node.specs.Lists.{all_from}
 use Rattle.node.specs.Nodes.{no_op}
-use Rattle.node.specs.Ops.{after_op, clause_op, kinds_of, recv_op}
+use Rattle.node.specs.Ops.{after_op, clause_op, is_part, kinds_of, recv_op}
 use Rattle.node.proofs.Lists.{all_more, all_stop, all_end, all_of_from}
 use Rattle.rules.specs.Behaviours.{Instruction, due, has_clauses, in_turn, instruction, is_clause, targets_free, well_placed}
 use Rattle.behaviours.specs.Codes.{code_in, has_target}
-use Rattle.behaviours.proofs.Codes.{clause_count_lem, code_at, code_length, on_part_end, target_to}
-use Rattle.placement.specs.Misplaced.{misplaced_in, misplaced_from}
+use Rattle.behaviours.proofs.Codes.{clause_count_lem, code_at, code_length, free_at, free_none, on_part_at}
+use Rattle.placement.specs.Misplaced.{line_told, misplaced_in, misplaced_from, or_else}
 
 -- ---- one op
 
@@ -31,9 +32,11 @@ module _ (n : ℕ) (ops : List Op) (k t : ℕ) (h : t < n) {o : Op} (at : o ≡ 
 
   recv_free : o.number ≡ recv_op → targets_free (code_in n ops k) (instruction o) ≡ true
   unfolding has_target kinds_of
-  recv_free e =
-      let none : n ≡ cond (has_target o.number) o.target n = ap (λ (j : ℕ). cond (has_target j) o.target n) (sym e) in
-      target_to n ops k o n none ∙ ap not (on_part_end (code_in n ops k) n (omega (arith, code_length n ops k)))
+  recv_free e = sym (free_none (code_in n ops k) o (ap (λ (j : ℕ). cond (has_target j) (Some o.target) None) e))
+
+  -- an op that leads to this one, at a place before the end
+  pub free_there : (p : Op) → cond (has_target p.number) (Some p.target) None ≡ Some t → not (is_part o.number) ≡ targets_free (code_in n ops k) (instruction p)
+  free_there p e = sym (free_at (code_in n ops k) p t e ∙ ap not (on_part_at n ops k t h ∙ ap (λ (x : Op). is_part x.number) (sym at)))
 
   module _ {r : Bool} where
     pub placed_recv : o.number ≡ recv_op → r ≡ has_clauses o.small (drop (t + 1) (code_in n ops k)) → r ≡ well_placed (code_in n ops k) t (get_or (code_in n ops k) t (instruction no_op))
@@ -116,17 +119,35 @@ module _ (code : List Instruction) (f t : ℕ) {g : ℕ} (inv : g ≡ misplaced_
 pub in_begin : (code : List Instruction) (f : ℕ) → misplaced_in code 0 f code ≡ misplaced_in code 0 (f + 0) (drop 0 code)
 in_begin code f = let e : f + 0 ≡ f = omega arith in rw e
 
+-- a line as the code tells it
+told_some : (n m : ℕ) → line_told n ≡ Some m → (n ≡ m) × (0 < n)
+told_some zero m e = cc
+told_some (suc n) m e = (cc, omega arith)
+
+told_none : (n : ℕ) → line_told n ≡ None → n ≡ 0
+told_none zero e = refl
+told_none (suc n) e = cc
+
+pub told_line : (n : ℕ) → 1 ≤ n → Some n ≡ line_told n
+told_line zero h = absurd (omega arith)
+told_line (suc n) h = refl
+
 -- ---- the behaviours
 
 module _ (codes : List (List Instruction)) (line k : ℕ) {g : ℕ} (inv : g ≡ misplaced_from line (drop k codes)) where
-  module _ (code : List Instruction) {found : ℕ} (h : k < length codes) (at : get_or codes k [] ≡ code) (by : found ≡ misplaced_in code 0 (line + 1) code) where
-    pub from_stop : (found ≡ 0 → ⊥) → found ≡ g
+  module _ (code : List Instruction) (h : k < length codes) (at : get_or codes k [] ≡ code) where
+    opened : g ≡ or_else (misplaced_in code 0 (line + 1) code) (misplaced_from (line + 1 + length code) (drop (k + 1) codes))
     unfolding misplaced_from
-    from_stop e = sym (inv ∙ rw (drop-cons codes k [] h, at, ← by, ne_eqb found 0 e))
+    opened = inv ∙ rw (drop-cons codes k [] h, at, add-one k)
 
-    pub from_more : found ≡ 0 → g ≡ misplaced_from (line + 1 + length code) (drop (k + 1) codes)
-    unfolding misplaced_from
-    from_more e = inv ∙ rw (drop-cons codes k [] h, at, ← by, eq-eqb found 0 e, add-one k)
+    pub from_stop : (found : ℕ) → line_told (misplaced_in code 0 (line + 1) code) ≡ Some found → Some found ≡ line_told g
+    from_stop found e =
+        let w = told_some _ found e in
+        let first : found ≡ g = sym (opened ∙ rw (ne_eqb (misplaced_in code 0 (line + 1) code) 0 (λ z. omega (arith, w, z))) w.0) in
+        told_line found (omega (arith, w)) ∙ ap line_told first
+
+    pub from_more : line_told (misplaced_in code 0 (line + 1) code) ≡ None → g ≡ misplaced_from (line + 1 + length code) (drop (k + 1) codes)
+    from_more e = opened ∙ rw (eq-eqb (misplaced_in code 0 (line + 1) code) 0 (told_none _ e))
 
   pub from_end : length codes ≤ k → 0 ≡ g
   unfolding misplaced_from

@@ -1,1 +1,2 @@
 pub mod Misplaced
+pub mod Read

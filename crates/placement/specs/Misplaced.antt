@@ -2,8 +2,9 @@
 --   misplaced_in code t n xs   of the ops xs, of which the first stands at place t of the code and on line n
 --   misplaced_from n codes     of codes of which the first has its line `code=` at n
 --   first_code                 the line of the first `code=`
+--   line_told n                a line as the code tells it: none for 0
 -- Each is the line of the first op that is not well placed; 0 where there is none.
-use Rattle.std.specs.Prelude.{cond, List, [], ◌∷◌, ℕ, ◌+◌, eqb, length}
+use Rattle.std.specs.Prelude.{cond, List, [], ◌∷◌, Option, None, Some, ℕ, zero, suc, ◌+◌, eqb, length}
 use Rattle.rules.specs.Behaviours.{Instruction, well_placed}
 
 unfoldable pub misplaced_in : List Instruction → ℕ → ℕ → List Instruction → ℕ
@@ -20,3 +21,7 @@ misplaced_from n (code ∷ codes) = or_else (misplaced_in code 0 (n + 1) code) (
 -- behind `plan=1` and `behaviours=`
 abbrev pub first_code : ℕ
 first_code = 3
+
+abbrev pub line_told : ℕ → Option ℕ
+line_told zero = None
+line_told (suc n) = Some (suc n)

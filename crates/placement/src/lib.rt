@@ -1,134 +1,119 @@
 // Rule 14 of a plan's behaviours, and the line that is told of it.
 #![tactic(auto)]
 
-ghost use Rattle.std.specs.Prelude.{◌≡◌, ◌+◌, ◌*◌, ◌<◌, get_or, take, drop};
+ghost use Rattle.std.specs.Prelude.{◌≡◌, ◌+◌, ◌*◌, ◌≤◌, ◌<◌, get_or, take, drop};
 ghost use Rattle.node.specs.Nodes.{no_op};
 ghost use Rattle.rules.specs.Behaviours.{due, has_clauses, in_turn, instruction, targets_free, well_placed};
-ghost use Rattle.behaviours.specs.Codes.{code_in, codes_in};
-ghost use Rattle.placement.specs.Misplaced.{first_code, misplaced_in, misplaced_from};
+ghost use Rattle.behaviours.specs.Codes.{codes_in};
+ghost use Rattle.placement.specs.Misplaced.{first_code, line_told, misplaced_in, misplaced_from};
+ghost use Rattle.placement.specs.Read.{code_of};
 
 use node::{AFTER, CLAUSE, Op, RECV, is_part};
 
-// The line of the first op that is not well placed; 0 where there is none. Sound behaviours have none: that is one pass, and the walk
-// below, which copies the ops, is left to plans that are refused.
-pub fn misplaced(count: u8, lens: [u8; 8], ops: [Op; 256]) -> usize
-    ensures { result ≡ misplaced_from first_code (codes_in count lens ops) }
+// The line of the first op that is not well placed, where there is one. Sound behaviours have none: that is one pass, and the walk below is
+// left to plans that are refused.
+pub fn misplaced(count: u8, lens: [u8; 8], ops: [Op; 256]) -> Option<usize>
+    ensures { result ≡ line_told (misplaced_from first_code (codes_in count lens ops)) }
 {
     if behaviours::behaviours_sound(count, lens, ops) {
-        return 0;
+        return None;
     }
     let mut line: usize = 3;
-    let mut k: u8 = 0;
-    while k < count {
-        let len = len_of(lens, k);
+    for k in 0..count {
+        let len = lens.get(k as usize).copied().unwrap_or(0);
+        let code = Code { ops: &ops, k, len };
         line += 1;
-        let found = misplaced_in(len, ops, k, line);
-        if found != 0 {
-            return found;
+        if let Some(found) = code.misplaced(line) {
+            return Some(found);
         }
         line += len as usize;
-        k += 1;
     }
-    0
+    None
 }
 
-// How many ops the behaviour that stands at k has.
-fn len_of(lens: [u8; 8], k: u8) -> u8
-    ensures { result ≡ get_or lens k 0 }
-{
-    if k < 8 {
-        let at = k as usize;
-        return lens[at];
-    }
-    0
+// The behaviour of `len` ops that stands at k. It is no slice of the ops, since a length may reach past their end, where blank ops are read.
+#[derive(Clone, Copy)]
+struct Code<'a> {
+    ops: &'a [Op; 256],
+    k: u8,
+    len: u8,
 }
 
-// The op at place t of the behaviour that stands at k.
-fn op_of(ops: [Op; 256], k: u8, t: u8) -> Op
-    ensures { result ≡ get_or ops (32 * k + t) no_op }
-{
-    let at = 32 * (k as usize) + (t as usize);
-    if at < 256 {
-        return ops[at];
+impl Code<'_> {
+    // The op at place t.
+    fn op(self, t: u8) -> Op
+        ensures { result ≡ get_or self.entry.ops.now (32 * self.entry.k + t) no_op }
+    {
+        let ops = self.ops;
+        let at = 32 * self.k as usize + t as usize;
+        ops.get(at).copied().unwrap_or(Op::blank())
     }
-    Op::blank()
-}
 
-// Of a behaviour of `len` ops that stands at k, its first op being on line `first`.
-fn misplaced_in(len: u8, ops: [Op; 256], k: u8, first: usize) -> usize
-    requires { first < 65536 }
-    ensures { result ≡ misplaced_in (code_in len ops k) 0 first (code_in len ops k) }
-{
-    let mut left: u16 = 0;
-    let mut t: u8 = 0;
-    while t < len {
-        let op = op_of(ops, k, t);
-        if !well_placed(len, ops, k, t, left) {
-            return first + (t as usize);
+    // The line of the first op that is not well placed, where there is one; the first op of all is on line `first`.
+    fn misplaced(self, first: usize) -> Option<usize>
+        requires least { 1 ≤ first }
+        requires most { first < 65537 }
+        ensures { result ≡ line_told (misplaced_in (code_of self.entry) 0 first (code_of self.entry)) }
+    {
+        let mut left: u16 = 0;
+        for t in 0..self.len {
+            if !self.well_placed(t, left) {
+                return Some(first + t as usize);
+            }
+            left = behaviours::due_next(left, self.op(t));
         }
-        left = behaviours::due_next(left, op);
-        t += 1;
+        None
     }
-    0
-}
 
-// The op at place t, where `left` parts of a recv may still stand.
-fn well_placed(len: u8, ops: [Op; 256], k: u8, t: u8, left: u16) -> bool
-    requires { (t < len) × (left ≡ due 0 (take t (code_in len ops k))) }
-    ensures { result ≡ well_placed (code_in len ops k) t (get_or (code_in len ops k) t (instruction no_op)) }
-{
-    let op = op_of(ops, k, t);
-    let number = op.number;
-    if number == RECV {
-        return has_clauses(len, ops, k, t, op.small);
+    // The op at place t, where `left` parts of a recv may still stand.
+    fn well_placed(self, t: u8, left: u16) -> bool
+        requires inside { t < self.len }
+        requires parts { left ≡ due 0 (take t (code_of self)) }
+        ensures { result ≡ well_placed (code_of self.entry) t (get_or (code_of self.entry) t (instruction no_op)) }
+    {
+        let op = self.op(t);
+        if op.number == RECV {
+            return self.has_clauses(t, op.small);
+        }
+        in_turn(op.number, left) && self.lands_free(op)
     }
-    if in_turn(number, left) {
-        return lands_free(len, ops, k, op);
+
+    // The n ops behind place t are clauses.
+    fn has_clauses(self, t: u8, n: u8) -> bool
+        requires { t < self.len }
+        ensures { result ≡ has_clauses n (drop (t + 1) (code_of self.entry)) }
+    {
+        let next = t + 1;
+        if self.len - next < n {
+            return false;
+        }
+        for i in 0..n {
+            let op = self.op(next + i);
+            if op.number != CLAUSE {
+                return false;
+            }
+        }
+        true
     }
-    false
+
+    // An op leads to no part of a recv.
+    fn lands_free(self, op: Op) -> bool
+        ensures { result ≡ targets_free (code_of self.entry) (instruction op) }
+    {
+        match behaviours::landing(op) {
+            Some(to) => self.len <= to || !is_part(self.op(to).number),
+            None => true,
+        }
+    }
 }
 
 // A clause is due where one stands, and an `after` may stand where one does.
 fn in_turn(number: u8, left: u16) -> bool
     ensures { result ≡ in_turn number left }
 {
-    if number == CLAUSE {
-        return 1 < left;
+    match number {
+        CLAUSE => 1 < left,
+        AFTER => left == 1,
+        _ => true,
     }
-    if number == AFTER {
-        return left == 1;
-    }
-    true
-}
-
-// The n ops behind place t are clauses.
-fn has_clauses(len: u8, ops: [Op; 256], k: u8, t: u8, n: u8) -> bool
-    requires { t < len }
-    ensures { result ≡ has_clauses n (drop (t + 1) (code_in len ops k)) }
-{
-    let next = t + 1;
-    if len - next < n {
-        return false;
-    }
-    let mut i: u8 = 0;
-    while i < n {
-        let op = op_of(ops, k, next + i);
-        if op.number != CLAUSE {
-            return false;
-        }
-        i += 1;
-    }
-    true
-}
-
-// An op leads to no part of a recv.
-fn lands_free(len: u8, ops: [Op; 256], k: u8, op: Op) -> bool
-    ensures { result ≡ targets_free (code_in len ops k) (instruction op) }
-{
-    let to = behaviours::landing(op, len);
-    if len <= to {
-        return true;
-    }
-    let there = op_of(ops, k, to);
-    !is_part(there.number)
 }

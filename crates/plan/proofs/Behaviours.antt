@@ -17,7 +17,7 @@ use Rattle.node.proofs.Lists.{firsts_take, map_rising_at, map_rising_length}
 use Rattle.rules.specs.Behaviours.{Instruction, in_range, instruction}
 use Rattle.rules.specs.Nodes.{code, behaviours_of}
 use Rattle.rules.proofs.All.{parts, all_of_at, map_at}
-use Rattle.plan_line.specs.declared.Start.{Start}
+use Rattle.plan_line.specs.Lines.{Start}
 use Rattle.plan.specs.Plans.{Plan, empty_node, with_code, with_start, with_each, node_of}
 use Rattle.plan.proofs.Kept.{code_kept, PlanKept}
 use Rattle.plan.proofs.Nodes.{codes_count}

@@ -14,9 +14,8 @@ use Rattle.rules.specs.Nodes.{code, behaviours_of}
 use Rattle.text.specs.Numbers.{is_digit, unsigned_form, negative, unsigned, number_form, decimal, number_value, number_of, ranged_of}
 use Rattle.text.specs.Parts.{split, in_front, line_then, last_apart, lines_of, fields_of, equal, starts_with, index_of}
 use Rattle.text.specs.Values.{plus_of, minus_of, int_of, by_letter, value_of}
-use Rattle.plan_line.specs.declared.Start.{Start}
 use Rattle.plan_line.specs.Ops.{clause_kind, operand_of, with_operand, operands_of, op_of, coded_of}
-use Rattle.plan_line.specs.Lines.{header_told, header_line, count_told, count_line, op_told, op_line, start_of, risen, start_told, start_line}
+use Rattle.plan_line.specs.Lines.{Start, header_told, header_line, count_told, count_line, op_told, op_line, start_of, risen, start_told, start_line}
 use Rattle.placement.specs.Misplaced.{misplaced_in, misplaced_from}
 use Rattle.plan.specs.Plans.{Plan, code_lines, start_lines, plan_lines, misplaced, node_of, refused_load, checked, load_of}
 use Rattle.plan_line.specs.Ops.{worse}

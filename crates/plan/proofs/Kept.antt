@@ -3,33 +3,29 @@
 --   PlanKept p                       so does the whole plan p
 --   plan_kept                        a plan that is read does
 --   line_good times_good end_good    what one line, some readings and the end were read of, and what they left
---   start_least                      a start that is read has a behaviour
-use mathlib.Core.Bool.{Bool, true, false, So, ◌&&◌}
+use mathlib.Core.Bool.{Bool, So, ◌&&◌}
 use mathlib.Core.List.{List, [], ◌∷◌, ◌++◌}
-use mathlib.Core.Path.{◌≡◌, refl, sym, ap, subst, ◌∙◌}
+use mathlib.Core.Path.{◌≡◌, refl, sym, ap, subst}
 use Prim.Native.Nat.{ℕ, zero, suc, ◌+◌, ◌≤◌}
 use native.Mathlib.Omega.{arith}
-use borrow.Author.Tests.{le-leb, leb-true, eqb-true}
-use lib.Dec.{eqb, leb}
+use borrow.Author.Tests.{le-leb}
+use lib.Dec.{leb}
 use lib.ListN.{length, length-append}
 use Rattle.node.specs.declared.Op.{Op}
 use Rattle.node.specs.declared.ProcessNumber.{ProcessNumber}
 use Rattle.node.specs.Lists.{all_of}
-use Rattle.rules.specs.Answers.{Answer, refused, done, need}
+use Rattle.rules.specs.Answers.{Answer, refused, done}
 use Rattle.rules.specs.Behaviours.{in_range, instruction}
 use Rattle.node.specs.Values.{is_number}
-use Rattle.rules.proofs.All.{both, parts, all_of_join}
+use Rattle.rules.proofs.All.{both, all_of_join}
 use Rattle.behaviours.proofs.Operands.{in_range_by}
 use Rattle.text.specs.Parts.{Lines, line_then}
-use Rattle.plan_line.specs.declared.Start.{Start}
-use Rattle.plan_line.specs.Lines.{behaviours_key, code_key, starts_key, answered, header_line, count_told, count_line, op_told, op_line, start_told, start_line}
+use Rattle.plan_line.specs.Lines.{Start, behaviours_key, code_key, starts_key, header_line, count_told, count_line, op_told, op_line, start_told, start_line}
 use Rattle.plan_line.proofs.InRange.{op_kept}
 use Rattle.plan_line.proofs.Ranges.{count_kept, start_kept_lem}
-use Rattle.plan.specs.declared.Mark.{Mark}
-use Rattle.plan.specs.Marks.{left_at, Reached}
+use Rattle.plan_line.proofs.Told.{answered_done}
 use Rattle.plan.specs.Plans.{Plan, before_first, last_from, more, start_more, code_lines, start_lines, plan_lines}
 use Rattle.plan.specs.Reading.{Left, Read, bad, good, judged, first_of, on_line, then_on, times, nothing_in, end_of}
-use Rattle.plan.proofs.Loops.{mark_read_good}
 use Rattle.plan.proofs.Whole.{count_in, codes_in, starts_in, ends_in}
 
 abbrev pub code_kept : ℕ → List Op → Bool
@@ -68,13 +64,6 @@ module _ {A : Type 0} where
   pub line_good : (f : List ℕ → Answer A) (l : Left) {a : A} {k : Left} → on_line f l ≡ good a k → (line : List ℕ) × (f line ≡ done a) × (l.text ≡ line_then line k.text)
   unfolding on_line
   line_good f l e = first_good f l.first l.text.whole l.text.rest e
-
-  answered_by : (k : ℕ) (a b : A) (t : Bool) → eqb k 0 ≡ t → need t k (done a) ≡ done b → (k ≡ 0) × (a ≡ b)
-  answered_by k a b true e h = (eqb-true k 0 e, cc)
-  answered_by k a b false e h = let z : ◌≡◌ {A = ℕ} 0 1 = cc in let no : ⊥ = omega arith in absurd no
-
-  pub answered_done : (k : ℕ) (a b : A) → answered k a ≡ done b → (k ≡ 0) × (a ≡ b)
-  answered_done k a b h = answered_by k a b (eqb k 0) refl h
 
   -- as many as their count; what each reading keeps of what was read and of what is left, all of them keep
   module _ (f : List A → Left → Read A) (Q : List A → Left → Type 0)
@@ -132,15 +121,6 @@ start_read c last l {s} e =
     subst (λ (y : Start). So (start_kept c y)) a.1
     (both (both (le-leb 1 x.process.0 (kept.first a.0)) (le-leb x.process.0 16 kept.process))
     (both (le-leb 1 x.behaviour.0 (kept.least a.0)) (le-leb x.behaviour.0 c (kept.most a.0))))
-
--- a start that is read has a behaviour
-pub start_least : (s : List ℕ) (m : Mark) (c : ℕ) (last : ProcessNumber) {x : Mark} {y : Start} → Reached s x y (on_line (start_line c last) (left_at s m)) → x.refusal ≡ 0
-    → 1 ≤ y.behaviour.0
-unfolding is_number
-start_least s m c last {x} {y} r on =
-    let kept = start_read c last (left_at s m) (sym r.is ∙ mark_read_good s x y on) in
-    let sizes = parts (is_number y.process.0) (leb 1 y.behaviour.0 && leb y.behaviour.0 c) kept in
-    leb-true _ _ (parts (leb 1 y.behaviour.0) (leb y.behaviour.0 c) sizes.1).0
 
 code_read : (c : ℕ) (l : Left) {code : List Op} {k : Left} → code_lines c l ≡ good code k → So (code_kept c code)
 unfolding code_lines

@@ -1,4 +1,3 @@
-pub mod Marks
 pub mod Loops
 pub mod Nodes
 pub mod Whole
@@ -7,3 +6,5 @@ pub mod Behaviours
 pub mod Sound
 pub mod Examples
 pub mod Refusals
+pub mod Lines
+pub mod Told

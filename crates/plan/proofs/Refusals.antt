@@ -23,8 +23,7 @@ use Rattle.placement.proofs.Placed.{misplaced_most}
 use Rattle.placement.specs.Misplaced.{first_code}
 use Rattle.plan_line.proofs.Refusals.{Low, header_told_lem, count_told_lem, op_told_lem, start_told_lem}
 use Rattle.plan_line.specs.Lines.{behaviours_key, code_key, starts_key, header_line, count_line, op_line, start_line}
-use Rattle.plan.specs.declared.Loaded.{Loaded}
-use Rattle.plan.specs.Plans.{Plan, text_too_long, ill_placed, before_first, last_from, more, code_lines, start_more, start_lines, plan_lines}
+use Rattle.plan.specs.Plans.{Loaded, Plan, text_too_long, ill_placed, before_first, last_from, more, code_lines, start_more, start_lines, plan_lines}
 use Rattle.plan.specs.Plans.{misplaced, node_of, refused_load, checked, loaded_from, load_of}
 use Rattle.plan.specs.Reading.{Left, Read, bad, good, judged, first_of, on_line, then_on, times, nothing_in, end_of}
 use Rattle.plan.proofs.Behaviours.{behaviours_of_lem}

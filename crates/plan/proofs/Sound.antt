@@ -35,9 +35,8 @@ use Rattle.rules.proofs.Shape.{Sized}
 use Rattle.text.specs.Parts.{lines_of}
 use Rattle.placement.specs.Misplaced.{first_code}
 use Rattle.placement.proofs.Placed.{misplaced_none}
-use Rattle.plan_line.specs.declared.Start.{Start}
-use Rattle.plan.specs.declared.Loaded.{Loaded}
-use Rattle.plan.specs.Plans.{Plan, text_too_long, ill_placed, empty_node, with_code, with_start, with_each, node_of, misplaced, refused_load, checked, loaded_from, plan_lines, load_of}
+use Rattle.plan_line.specs.Lines.{Start}
+use Rattle.plan.specs.Plans.{Loaded, Plan, text_too_long, ill_placed, empty_node, with_code, with_start, with_each, node_of, misplaced, refused_load, checked, loaded_from, plan_lines, load_of}
 use Rattle.plan.specs.Reading.{Left, Read, bad, good}
 use Rattle.plan.proofs.Behaviours.{behaviours_of_lem}
 use Rattle.plan.proofs.Kept.{code_kept, start_kept, PlanKept, plan_kept}

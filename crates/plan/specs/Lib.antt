@@ -1,3 +1,4 @@
 pub mod Reading
 pub mod Plans
-pub mod Marks
+pub mod Faults
+pub mod Rests

@@ -7,12 +7,11 @@
 --   plan_lines                the lines of a plan
 --   misplaced node            14: the line of the first op that is not well placed; 0 where there is none
 --   remade n ..               n with behaviours and processes anew
---   process_of b              a process that starts with behaviour b; unborn where b is 0
---   coded_node codes          the node with behaviours and processes, without mail and signals
 --   with_code with_start      a node with one more behaviour, and with one more process started
 --   node_of plan              the started node
+--   Loaded                    what a load tells: the number, 10 to 14 or 0; the line, from 1, or 0; and the node
 --   load_of text              what a load tells
-use Rattle.std.specs.Prelude.{cond, List, [], ◌∷◌, ◌++◌, map, ℕ, zero, suc, ◌+◌, ◌-◌, ◌*◌, eqb, ltb, length, set, replicate}
+use Rattle.std.specs.Prelude.{cond, List, [], ◌∷◌, ◌++◌, ℕ, ◌+◌, ◌-◌, ◌*◌, eqb, ltb, length, set, replicate}
 use Rattle.std.proofs.lemmas.List.Edits.{sets}
 use Rattle.node.specs.declared.Node.{Node}
 use Rattle.node.specs.declared.Op.{Op}
@@ -27,10 +26,7 @@ use Rattle.node.specs.Values.{int_zero}
 use Rattle.rules.specs.Nodes.{behaviours_of}
 use Rattle.text.specs.Parts.{lines_of}
 use Rattle.placement.specs.Misplaced.{first_code, misplaced_from}
-use Rattle.plan_line.specs.declared.Start.{Start}
-use Rattle.plan_line.specs.Lines.{behaviours_key, code_key, starts_key, header_line, count_line, op_line, start_line}
-use Rattle.plan.specs.declared.Codes.{Codes}
-use Rattle.plan.specs.declared.Loaded.{Loaded}
+use Rattle.plan_line.specs.Lines.{Start, behaviours_key, code_key, starts_key, header_line, count_line, op_line, start_line}
 use Rattle.plan.specs.Reading.{Left, Read, bad, good, on_line, then_on, times, end_of}
 
 -- "10 text above 16,384 bytes", "14, looked for after the last line"
@@ -112,14 +108,6 @@ remade n count lens ops processes = record {
   cells = n.cells;
 }
 
--- a process that starts with behaviour b; unborn where b is 0
-abbrev pub process_of : ℕ → Process
-process_of zero = unborn
-process_of (suc b) = fresh (record { 0 = suc b }) int_zero
-
-abbrev pub coded_node : Codes → Node
-coded_node c = remade empty_node c.count c.lens c.ops (map process_of c.starts)
-
 -- the ops behind those of the other behaviours: their N, and the ops themselves on 32 places of their own
 abbrev pub with_ops : Node → List Op → Node
 with_ops n code = remade n n.count (set n.lens n.count (length code)) (sets n.ops (n.count * 32) code) n.processes
@@ -144,6 +132,11 @@ unfoldable pub node_of : Plan → Node
 node_of p = with_each with_start (with_each with_code empty_node p.codes) p.starts
 
 -- ---- the load
+
+pub record Loaded : Type 0 where
+  pub number : ℕ
+  pub line : ℕ
+  pub node : Node
 
 -- "A refused load gives a blank node"
 unfoldable pub refused_load : ℕ → ℕ → Loaded

@@ -24,14 +24,11 @@ use Rattle.node.proofs.Ops.{kinds_length}
 use Rattle.rules.specs.Answers.{Answer, refused, done}
 use Rattle.rules.specs.Behaviours.{Operand, operand, operand_in_range}
 use Rattle.rules.proofs.All.{both, parts, all_of_any}
-use Rattle.text.specs.declared.Parsed.{Parsed}
 use Rattle.text.specs.Numbers.{malformed, out_of_range, Signed, number_of, ranged_of}
 use Rattle.text.specs.Parts.{fields_of, index_of, starts_with}
-use Rattle.text.specs.Values.{read_as, by_letter, int_of, minus_of, no_value, plus_of, ranged_value, value_of}
-use Rattle.plan_line.specs.declared.Coded.{Coded}
-use Rattle.plan_line.specs.declared.ReadOperand.{ReadOperand}
+use Rattle.text.specs.Values.{read_as, by_letter, int_of, minus_of, Parsed, no_value, plus_of, ranged_value, value_of}
 use Rattle.plan_line.specs.Lines.{op_key, op_told}
-use Rattle.plan_line.specs.Ops.{bare, clause_kind, clause_words, coded_of, exact, with_joined, no_code, operand_of, operands_of, op_of, with_operand}
+use Rattle.plan_line.specs.Ops.{Coded, ReadOperand, bare, clause_kind, clause_words, coded_of, exact, with_joined, no_code, operand_of, operands_of, op_of, with_operand}
 use Rattle.plan_line.proofs.Ranges.{ranged_kept, worse_none}
 
 -- ---- values

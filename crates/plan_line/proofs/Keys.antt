@@ -1,20 +1,39 @@
 -- Laws of a line with a key: what stands behind it decides, and a wrong key is 11. Assumes nothing.
+--   prefix_equal          the library's `strip_prefix` compares as `equal` does
+--   key_wrong key_right   the answer for a line, where its key is wrong and where it is right
+--   keys                  what a line with a key is proved by
 use mathlib.Core.Bool.{Bool, true, false}
-use mathlib.Core.List.{List}
-use mathlib.Core.Path.{◌≡◌, sym, ◌∙◌}
-use Prim.Native.Nat.{ℕ, ◌-◌, ◌≤◌}
+use mathlib.Core.List.{List, [], ◌∷◌}
+use mathlib.Core.Path.{◌≡◌, refl, sym}
+use Prim.Native.Nat.{ℕ}
+use borrow.Author.Tests.{eq-eqb, eqb-true, eqb-false, ne_eqb}
+use lib.Dec.{eqb}
 use lib.ListN.{length, take, drop}
-use Rattle.text.specs.Parts.{starts_with}
-use Rattle.text.proofs.Parts.{tail_part, starts_long}
+use lib.Pointwise.{pointwise}
+use Rattle.text.specs.Parts.{equal, starts_with}
 use Rattle.plan_line.specs.Lines.{behind_key}
+use Rattle.plan_line.proofs.Told.{err_told, number_told}
 
-module _ (key line : List ℕ) {t : Bool} (h : t ≡ starts_with key line) where
-  pub key_long : t ≡ true → length key ≤ length line
-  key_long e = starts_long key line (sym h ∙ e)
+eqb_turned : (a b : ℕ) (t : Bool) → eqb a b ≡ t → eqb b a ≡ t
+eqb_turned a b true e = eq-eqb b a (sym (eqb-true a b e))
+eqb_turned a b false e = ne_eqb b a (λ q. eqb-false a b e (sym q))
 
-  module _ {A : Type 0} (wrong : A) (f : List ℕ → A) where
-    pub key_right : {x : A} → t ≡ true → x ≡ f (take (length line - length key) (drop (length key) line)) → x ≡ behind_key key wrong f line
-    key_right e p = rw (← h, e) (rw (tail_part line (length key)) at p)
+prefix_equal : (k l : List ℕ) → pointwise eqb l k ≡ equal k l
+unfolding equal
+prefix_equal [] [] = refl
+prefix_equal [] (b ∷ l) = refl
+prefix_equal (a ∷ k) [] = refl
+prefix_equal (a ∷ k) (b ∷ l) = rw (eqb_turned a b (eqb a b) refl, prefix_equal k l)
 
-    pub key_wrong : {x : A} → t ≡ false → x ≡ wrong → x ≡ behind_key key wrong f line
-    key_wrong e p = rw (← h, e) p
+pub prefix_starts : (k l : List ℕ) → pointwise eqb (take (length k) l) k ≡ starts_with k l
+unfolding starts_with
+prefix_starts k l = prefix_equal k (take (length k) l)
+
+module _ (key line : List ℕ) {A B : Type 0} (told : A → B) (wrong : A) (f : List ℕ → A) where
+  pub key_wrong : starts_with key line ≡ false → told wrong ≡ told (behind_key key wrong f line)
+  key_wrong h = rw h
+
+  pub key_right : {rest : List ℕ} {x : B} → (starts_with key line ≡ true) × (rest ≡ drop (length key) line) → x ≡ told (f rest) → x ≡ told (behind_key key wrong f line)
+  key_right h e = rw (h.0, ← h.1) e
+
+pub ruleset keys = (err_told, number_told, key_wrong, key_right)

@@ -13,12 +13,10 @@ use lib.Dec.{leb, ltb, eqb}
 use lib.ListN.{length, get_or, drop}
 use Rattle.node.specs.declared.ProcessNumber.{ProcessNumber}
 use Rattle.rules.specs.Answers.{done, need}
-use Rattle.text.specs.declared.Ranged.{Ranged}
-use Rattle.text.specs.Numbers.{malformed, out_of_range, negative, number_form, number_value, ceiling, no_number, number_of, ranged_of}
+use Rattle.text.specs.Numbers.{malformed, out_of_range, negative, number_form, number_value, ceiling, Ranged, no_number, number_of, ranged_of}
 use Rattle.text.specs.Parts.{starts_with, fields_of}
-use Rattle.plan_line.specs.declared.Start.{Start}
 use Rattle.plan_line.specs.Ops.{worse}
-use Rattle.plan_line.specs.Lines.{not_rising, start_key, count_told, pair_of, no_start, start_of, risen, start_told}
+use Rattle.plan_line.specs.Lines.{Start, not_rising, start_key, count_told, pair_of, no_start, start_of, risen, start_told}
 
 pub record Kept (low high : ℕ) (x : Ranged) : Type 0 where
   pub most : x.number ≤ high

@@ -21,9 +21,8 @@ use Rattle.rules.specs.Answers.{done, need}
 use Rattle.text.specs.Numbers.{malformed, out_of_range, negative, number_form, number_value, ceiling, number_of, ranged_of}
 use Rattle.text.specs.Parts.{equal, fields_of, index_of, starts_with}
 use Rattle.text.specs.Values.{read_as, by_letter, int_of, minus_of, no_value, plus_of, ranged_value, value_of}
-use Rattle.plan_line.specs.declared.Coded.{Coded}
 use Rattle.plan_line.specs.Lines.{not_rising, header, op_key, header_told, header_line, answered, count_told, count_line, op_told, op_line, start_told, start_line}
-use Rattle.plan_line.specs.Ops.{bare, clause_kind, clause_words, coded_of, exact, with_joined, no_code, operand_of, operands_of, op_of}
+use Rattle.plan_line.specs.Ops.{Coded, bare, clause_kind, clause_words, coded_of, exact, with_joined, no_code, operand_of, operands_of, op_of}
 use Rattle.plan_line.proofs.Ranges.{ranged_kept, count_kept, start_kept_lem, worse_most}
 
 -- ---- values

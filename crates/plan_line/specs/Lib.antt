@@ -1,2 +1,3 @@
 pub mod Ops
 pub mod Lines
+pub mod Results

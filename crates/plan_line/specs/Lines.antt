@@ -3,22 +3,21 @@
 --   header_told              what is told of the line `plan=1`: 11, or 0
 --   count_told key low high  what is told of a line with a key and a number, low to high
 --   op_told c n              what is told of a line `op=` of a code with n ops, in a plan with c behaviours
+--   Start                    a start as it is read: the refusal, 11 to 13, or 0, and its numbers
 --   start_of c fields        a start, from its process and behaviour
 --   risen last s            13: a start's process has to be above the last
 --   start_told c last        what is told of a line `start=` behind a start of process `last`
 --   answered k a            a result beside the refusal of its line
 --   header_line count_line op_line start_line   the refusal of such a line, or its result
 use Rattle.std.specs.Prelude.{cond, List, [], ℕ, eqb, ltb, length, get_or, drop}
+use Rattle.node.specs.declared.BehaviourNumber.{BehaviourNumber}
 use Rattle.node.specs.declared.Op.{Op}
 use Rattle.node.specs.declared.ProcessNumber.{ProcessNumber}
 use Rattle.node.specs.Texts.{bytes}
 use Rattle.rules.specs.Answers.{Answer, done, need}
-use Rattle.text.specs.declared.Ranged.{Ranged}
-use Rattle.text.specs.Numbers.{malformed, number_of, no_number, ranged_of}
+use Rattle.text.specs.Numbers.{malformed, number_of, Ranged, no_number, ranged_of}
 use Rattle.text.specs.Parts.{fields_of, equal, starts_with}
-use Rattle.plan_line.specs.declared.Coded.{Coded}
-use Rattle.plan_line.specs.declared.Start.{Start}
-use Rattle.plan_line.specs.Ops.{worse, no_code, coded_of}
+use Rattle.plan_line.specs.Ops.{Coded, worse, no_code, coded_of}
 
 -- "13 start numbers not rising"
 abbrev pub not_rising : ℕ
@@ -57,6 +56,11 @@ count_told key low high = behind_key key (no_number malformed) (λ l. ranged_of 
 
 unfoldable pub op_told : ℕ → ℕ → List ℕ → Coded
 op_told c n = behind_key op_key no_code (λ l. coded_of c n (fields_of l))
+
+pub record Start : Type 0 where
+  pub refusal : ℕ
+  pub process : ProcessNumber
+  pub behaviour : BehaviourNumber
 
 abbrev pub pair_of : Ranged → Ranged → Start
 pair_of i b = record { refusal = worse i.refusal b.refusal; process = record { 0 = i.number }; behaviour = record { 0 = b.number } }

@@ -1,5 +1,7 @@
 -- Lines `op=` (document 01, "Run, live" and "Plan, steps and listing text"). An op is read where the plan has c behaviours and its code
 -- n ops.
+--   ReadOperand             an operand as it is read: the refusal, 11 or 12, or 0; its number; and its value, where it has one
+--   Coded                   an op as it is read: the refusal, 11 or 12, or 0, and the op with the operands that were read
 --   worse j k               the number told of two refusals on a line: 11 before 12
 --   clause_words             the words of the clause kinds, from `any_kind` on
 --   ranged low high l       an operand that is a number, low to high
@@ -24,13 +26,18 @@ use Rattle.node.specs.Nodes.{no_op}
 use Rattle.node.specs.Ops.{is_kind, kinds_of, op_count, operand_counts, op_words}
 use Rattle.node.specs.Values.{any_kind, exact_kind, int_zero}
 use Rattle.node.specs.Texts.{bytes}
-use Rattle.text.specs.declared.Parsed.{Parsed}
-use Rattle.text.specs.declared.Ranged.{Ranged}
-use Rattle.text.specs.Numbers.{malformed, number_of, ranged_of}
+use Rattle.text.specs.Numbers.{malformed, number_of, Ranged, ranged_of}
 use Rattle.text.specs.Parts.{place_from, fields_of, index_of}
-use Rattle.text.specs.Values.{value_of}
-use Rattle.plan_line.specs.declared.Coded.{Coded}
-use Rattle.plan_line.specs.declared.ReadOperand.{ReadOperand}
+use Rattle.text.specs.Values.{Parsed, value_of}
+
+pub record ReadOperand : Type 0 where
+  pub refusal : ℕ
+  pub number : ℕ
+  pub value : Value
+
+pub record Coded : Type 0 where
+  pub refusal : ℕ
+  pub op : Op
 
 -- "on a line 11, 12, 13 in that order"
 unfoldable pub worse : ℕ → ℕ → ℕ

@@ -1,20 +1,23 @@
 // The lines of a plan, each read on its own.
 #![tactic(auto)]
 
-ghost use Rattle.std.specs.Prelude.{[], map, ◌≡◌, ◌<◌, ◌-◌, get_or};
+mod fault;
+
+ghost use Rattle.std.specs.Prelude.{List, [], map, true, false, ℕ, ◌≡◌, ◌<◌, ◌-◌, IsTrue, MatchResult, length, get_or, drop};
+ghost use Rattle.node.specs.Lists.{all_of};
 ghost use Rattle.node.specs.Ops.{op_count, op_words};
 ghost use Rattle.node.specs.Values.{any_kind};
-ghost use Rattle.text.specs.Parts.{fields_of};
-ghost use Rattle.words.specs.Words.{packed, place_of};
-ghost use Rattle.plan_line.specs.Ops.{worse, clause_words, ranged, exact, clause_kind, operand_of, with_value, with_operand, with_joined};
-ghost use Rattle.plan_line.specs.Ops.{FieldEnd, behind_field, bare, no_code, op_of, coded_of};
-ghost use Rattle.plan_line.specs.Lines.{header_told, count_told, op_told, start_of, no_start, risen, start_told};
+ghost use Rattle.text.specs.declared.Fault.TheVariants.{Malformed};
+ghost use Rattle.text.specs.Parts.{fields_of, index_of, starts_with};
+ghost use Rattle.words.specs.Words.{is_word, packed, found};
+ghost use Rattle.plan_line.specs.Ops.{clause_words, clause_kind, operand_of, with_operand};
+ghost use Rattle.plan_line.specs.Ops.{FieldEnd, behind_field, bare, op_of, coded_of};
+ghost use Rattle.plan_line.specs.Lines.{answered, op, start, header_line, count_line, op_line, start_of, start_line};
+ghost use Rattle.plan_line.specs.Results.{fault_told, line_told, kind_read, start_read};
 
-use node::{ANY, BehaviourNumber, EXACT, LAST_KIND, OPS, Op, OperandKind, ProcessNumber, Value};
-use text::{MALFORMED, Parsed, Ranged};
-
-// Start numbers that do not rise.
-const NOT_RISING: u8 = 13;
+pub use fault::LineFault;
+use node::{ANY, BehaviourNumber, EXACT, Op, OperandKind, ProcessNumber, Start, Value};
+use text::Fault;
 
 // The words of the ops, in their order, as `words::word_code` gives them: the reader and the writer of plan text take them from here.
 const OP_WORDS: [u64; 19] = [
@@ -49,346 +52,207 @@ const KIND_WORDS: [u64; 6] = [
     0x17_5de4, // down
 ];
 
-// The number of the empty text.
+// The number of the empty text, which the clauses of `op_word` and `kind_word` promise where there is no word: so they answer no Option.
 const NO_WORD: u64 = 1;
 
-// An operand as it is read: the refusal, 11 or 12, or 0; its number; and its value, where it has one.
-#[derive(Clone, Copy)]
-struct ReadOperand {
-    refusal: u8,
-    number: u8,
-    value: Value,
-}
-
-// An op as it is read: the refusal, 11 or 12, or 0, and the op with the operands that were read.
-#[derive(Clone, Copy)]
-pub struct Coded {
-    pub refusal: u8,
-    pub op: Op,
-}
-
-// A start as it is read: the refusal, 11 or 12, or 0, and its numbers.
-#[derive(Clone, Copy)]
-pub struct Start {
-    pub refusal: u8,
-    pub process: ProcessNumber,
-    pub behaviour: BehaviourNumber,
-}
-
-// The line `plan=1`: 11 or 0.
-pub fn header_line(line: &[u8]) -> u8
-    ensures { result ≡ header_told line.now }
+// The line `plan=1`.
+#[tactic(auto, unfolding(crate::specs::Lines::header_line, crate::specs::Lines::header_told))]
+pub fn header_line(line: &[u8]) -> Result<(), LineFault>
+    ensures { line_told (λ x. 1) result ≡ header_line line.now }
 {
     if text::same(line, b"plan=1") {
-        return 0;
+        Ok(())
+    } else {
+        Err(LineFault::Malformed)
     }
-    MALFORMED
 }
 
 // A line with a key and a number.
-pub fn count_line(line: &[u8], key: &[u8], low: u8, high: u8) -> Ranged
-    ensures { result ≡ count_told key.now low high line.now }
+#[tactic(auto, using(crate::proofs::Keys::keys), unfolding(crate::specs::Lines::count_line, crate::specs::Lines::count_told))]
+pub fn count_line(line: &[u8], key: &[u8], low: u8, high: u8) -> Result<u8, LineFault>
+    ensures { line_told (λ n. n) result ≡ count_line key.now low high line.now }
 {
-    if text::starts(line, key) {
-        let k = key.len();
-        return text::read_ranged(&line[k..], low, high);
-    }
-    Ranged {
-        refusal: MALFORMED,
-        number: 0,
-    }
+    let rest = behind_key(line, key)?;
+    Ok(text::read_ranged(rest, low, high)?)
 }
 
 // A line `op=` of a code with `len` ops, in a plan with `count` behaviours.
-pub fn op_line(line: &[u8], count: u8, len: u8) -> Coded
-    ensures { result ≡ op_told count len line.now }
+#[tactic(auto, using(crate::proofs::Keys::keys), unfolding(crate::specs::Lines::op_line, crate::specs::Lines::op_told))]
+pub fn op_line(line: &[u8], count: u8, len: u8) -> Result<Op, LineFault>
+    ensures { line_told (λ o. o) result ≡ op_line count len line.now }
 {
-    if text::starts(line, b"op=") {
-        return read_op(&line[3..], count, len);
-    }
-    no_code()
+    let rest = behind_key(line, b"op=")?;
+    Ok(read_op(rest, count, len)?)
 }
 
-// A line `start=` behind a start of process `last`.
-pub fn start_line(line: &[u8], count: u8, last: ProcessNumber) -> Start
-    ensures { result ≡ start_told count last line.now }
+// A line `start=` behind a start of process `last`, which its process has to be above.
+#[tactic(auto, using(crate::proofs::Keys::keys, crate::proofs::Starts::above), unfolding(crate::specs::Lines::start_line, crate::specs::Lines::start_told))]
+pub fn start_line(line: &[u8], count: u8, last: ProcessNumber) -> Result<Start, LineFault>
+    ensures { line_told start_read result ≡ start_line count last line.now }
 {
-    if text::starts(line, b"start=") {
-        return rising(read_start(&line[6..], count), last);
+    let rest = behind_key(line, b"start=")?;
+    let start = read_start(rest, count)?;
+    if last.0 < start.process.0 {
+        Ok(start)
+    } else {
+        Err(LineFault::NotRising)
     }
-    no_start(MALFORMED)
 }
 
 // The word of an op, as `words::put_word` takes it; no word for a number that is no op.
 pub fn op_word(number: u8) -> u64
     ensures { result ≡ packed (get_or op_words number []) }
 {
-    if number < OPS {
-        let k = number as usize;
-        return OP_WORDS[k];
-    }
-    NO_WORD
+    OP_WORDS
+        .get(usize::from(number))
+        .copied()
+        .unwrap_or(NO_WORD)
 }
 
 // The word of a clause's kind; no word past the last. The kind of one exact value, which has none, is read as `any`.
 pub fn kind_word(kind: u8) -> u64
     ensures { result ≡ packed (get_or clause_words (kind - any_kind) []) }
 {
-    if LAST_KIND < kind {
-        return NO_WORD;
-    }
-    let k = node::fallen(kind) as usize;
-    KIND_WORDS[k]
+    KIND_WORDS
+        .get(usize::from(kind.saturating_sub(ANY)))
+        .copied()
+        .unwrap_or(NO_WORD)
 }
 
-// The number told of two refusals on a line: 11 before 12.
-fn worse(j: u8, k: u8) -> u8
-    ensures { result ≡ worse j k }
+// What stands behind the key of a line.
+fn behind_key<'a>(line: &'a [u8], key: &[u8]) -> Result<&'a [u8], Fault>
+    ensures { MatchResult result
+        (λ rest. (starts_with key.now line.now ≡ true) × (rest.now ≡ drop (length key.now) line.now))
+        (λ e. (starts_with key.now line.now ≡ false) × (e ≡ Malformed)) }
 {
-    if j == 0 {
-        return k;
-    }
-    if k == MALFORMED {
-        return MALFORMED;
-    }
-    j
+    line.strip_prefix(key).ok_or(Fault::Malformed)
 }
 
 // What follows `op=`: a word and its operands.
-fn read_op(rest: &[u8], count: u8, len: u8) -> Coded
-    ensures { result ≡ coded_of count len (fields_of rest.now) }
+fn read_op(rest: &[u8], count: u8, len: u8) -> Result<Op, Fault>
+    ensures { fault_told (λ o. o) result ≡ op (coded_of count len (fields_of rest.now)) }
 {
     let e = text::find(rest, 0, b',');
-    let k = op_number(words::word_code(&rest[..e]));
-    if k < (OPS as usize) {
-        return operands(rest, e, k as u8, count, len);
-    }
-    no_code()
-}
-
-// The number of an op, by that of its word.
-fn op_number(code: u64) -> usize
-    ensures { result ≡ place_of code (map packed op_words) }
-{
-    let table = OP_WORDS;
-    words::place_of(&table[..], code)
-}
-
-fn no_code() -> Coded
-    ensures { result ≡ no_code }
-{
-    Coded {
-        refusal: MALFORMED,
-        op: Op::blank(),
+    match place_among(&OP_WORDS, &rest[..e]) {
+        Some(k) => operands(rest, e, k as u8, count, len),
+        None => Err(Fault::Malformed),
     }
 }
 
-fn bare_op(number: u8) -> Coded
-    ensures { result ≡ bare number }
-{
-    let op = Op {
-        number,
-        r: 0,
-        s: 0,
-        target: 0,
-        small: 0,
-        value: Value::ZERO,
-        process: ProcessNumber(0),
-        behaviour: BehaviourNumber(0),
-    };
-    Coded { refusal: 0, op }
-}
-
-// The operands of op `number`, whose word ends at `word`, each read by its kind. A comma stands at e, or the line ends there.
-fn operands(rest: &[u8], word: usize, number: u8, count: u8, len: u8) -> Coded
+// The operands of op `number`, whose word ends at `word`, each read by its kind. A comma stands at e, or the line ends there. 11 is told at
+// once, and 12 only at the end of the line, since 11 comes before it.
+fn operands(rest: &[u8], word: usize, number: u8, count: u8, len: u8) -> Result<Op, Fault>
     requires { FieldEnd rest.now word × (number < op_count) }
-    ensures { result ≡ op_of count len number (behind_field word rest.now) }
+    ensures { fault_told (λ o. o) result ≡ op (op_of count len number (behind_field word rest.now)) }
 {
-    let n = node::operand_count(number);
-    let mut coded = bare_op(number);
+    let mut op = Op {
+        number,
+        ..Op::blank()
+    };
+    let mut out_of_range = false;
     let mut e = word;
-    let mut i: u8 = 0;
-    while i < n {
+    for i in 0..node::operand_count(number) {
         if rest.len() <= e {
-            return no_code();
+            return Err(Fault::Malformed);
         }
         let at = e + 1;
-        let kind = node::operand_kind(number, i);
         e = text::find(rest, at, b',');
-        coded = with_joined(coded, kind, read_operand(&rest[at..e], kind, count, len));
-        i += 1;
+        match with_operand(op, node::operand_kind(number, i), &rest[at..e], count, len) {
+            Ok(more) => op = more,
+            Err(Fault::Malformed) => return Err(Fault::Malformed),
+            Err(Fault::OutOfRange) => out_of_range = true,
+        }
     }
     if e < rest.len() {
-        return no_code();
+        return Err(Fault::Malformed);
     }
-    coded
+    if out_of_range {
+        return Err(Fault::OutOfRange);
+    }
+    Ok(op)
 }
 
-// One operand more.
-fn with_joined(coded: Coded, kind: OperandKind, x: ReadOperand) -> Coded
-    ensures { result ≡ with_joined coded kind x }
-{
-    let op = coded.op;
-    Coded {
-        refusal: worse(coded.refusal, x.refusal),
-        op: with_operand(op, kind, x),
-    }
-}
-
-// An op with an operand of a kind.
-fn with_operand(op: Op, kind: OperandKind, x: ReadOperand) -> Op
-    ensures { result ≡ with_operand op kind x }
-{
-    let mut o = op;
-    let kept = op.value;
-    let v = x.value;
-    match kind {
-        OperandKind::NoOperand => o,
-        OperandKind::RegisterR => {
-            o.r = x.number;
-            o
-        }
-        OperandKind::RegisterS => {
-            o.s = x.number;
-            o
-        }
-        OperandKind::ValueV => with_value(o, o.small, v),
-        OperandKind::PlaceT => {
-            o.target = x.number;
-            o
-        }
-        OperandKind::BehaviourB => {
-            let b = BehaviourNumber(x.number);
-            o.behaviour = b;
-            o
-        }
-        OperandKind::ProcessQ => {
-            let q = ProcessNumber(x.number);
-            o.process = q;
-            o
-        }
-        OperandKind::FlagF => with_value(o, x.number, kept),
-        OperandKind::CountN => with_value(o, x.number, kept),
-        OperandKind::KindK => with_value(o, x.number, v),
-    }
-}
-
-// An op with its small number and its value anew.
-fn with_value(op: Op, small: u8, value: Value) -> Op
-    ensures { result ≡ with_value op small value }
-{
-    let process = op.process;
-    let behaviour = op.behaviour;
-    Op {
-        number: op.number,
-        r: op.r,
-        s: op.s,
-        target: op.target,
-        small,
-        value,
-        process,
-        behaviour,
-    }
-}
-
-// An operand of a kind.
-fn read_operand(s: &[u8], kind: OperandKind, count: u8, len: u8) -> ReadOperand
-    ensures { result ≡ operand_of count len kind s.now }
+// An op with an operand of a kind, which is read from s.
+#[tactic(auto, using(crate::proofs::Told::put), unfolding(crate::specs::Ops::with_operand, crate::specs::Ops::operand_of))]
+fn with_operand(op: Op, kind: OperandKind, s: &[u8], count: u8, len: u8) -> Result<Op, Fault>
+    ensures { let x = operand_of count len kind s.now in fault_told (λ o. o) result ≡ answered x.refusal (with_operand op kind x) }
 {
     match kind {
-        OperandKind::NoOperand => ranged(s, 0, 0),
-        OperandKind::RegisterR => ranged(s, 0, 3),
-        OperandKind::RegisterS => ranged(s, 0, 3),
-        OperandKind::ValueV => exact_value(text::read_value(s)),
-        OperandKind::PlaceT => ranged(s, 0, len),
-        OperandKind::BehaviourB => ranged(s, 1, count),
-        OperandKind::ProcessQ => ranged(s, 1, 16),
-        OperandKind::FlagF => ranged(s, 0, 1),
-        OperandKind::CountN => ranged(s, 1, 8),
-        OperandKind::KindK => clause_kind(s),
-    }
-}
-
-fn ranged(s: &[u8], low: u8, high: u8) -> ReadOperand
-    ensures { result ≡ ranged low high s.now }
-{
-    let x = text::read_ranged(s, low, high);
-    ReadOperand {
-        refusal: x.refusal,
-        number: x.number,
-        value: Value::ZERO,
+        OperandKind::NoOperand => {
+            text::read_ranged(s, 0, 0)?;
+            Ok(op)
+        }
+        OperandKind::RegisterR => Ok(Op {
+            r: text::read_ranged(s, 0, 3)?,
+            ..op
+        }),
+        OperandKind::RegisterS => Ok(Op {
+            s: text::read_ranged(s, 0, 3)?,
+            ..op
+        }),
+        OperandKind::ValueV => Ok(Op {
+            value: text::read_value(s)?,
+            ..op
+        }),
+        OperandKind::PlaceT => Ok(Op {
+            target: text::read_ranged(s, 0, len)?,
+            ..op
+        }),
+        OperandKind::BehaviourB => Ok(Op {
+            behaviour: BehaviourNumber(text::read_ranged(s, 1, count)?),
+            ..op
+        }),
+        OperandKind::ProcessQ => Ok(Op {
+            process: ProcessNumber(text::read_ranged(s, 1, 16)?),
+            ..op
+        }),
+        OperandKind::FlagF => Ok(Op {
+            small: text::read_ranged(s, 0, 1)?,
+            ..op
+        }),
+        OperandKind::CountN => Ok(Op {
+            small: text::read_ranged(s, 1, 8)?,
+            ..op
+        }),
+        OperandKind::KindK => {
+            let (small, value) = clause_kind(s)?;
+            Ok(Op { small, value, ..op })
+        }
     }
 }
 
 // A clause's kind: a word, or one exact value.
-fn clause_kind(s: &[u8]) -> ReadOperand
-    ensures { result ≡ clause_kind s.now }
+fn clause_kind(s: &[u8]) -> Result<(u8, Value), Fault>
+    ensures { let x = clause_kind s.now in fault_told kind_read result ≡ answered x.refusal x }
 {
-    let k = kind_number(words::word_code(s));
-    if k < (LAST_KIND as usize) {
-        return ReadOperand {
-            refusal: 0,
-            number: (k as u8) + ANY,
-            value: Value::ZERO,
-        };
-    }
-    exact_value(text::read_value(s))
-}
-
-// Which of the words of clause kinds it is.
-fn kind_number(code: u64) -> usize
-    ensures { result ≡ place_of code (map packed clause_words) }
-{
-    let table = KIND_WORDS;
-    words::place_of(&table[..], code)
-}
-
-fn exact_value(x: Parsed) -> ReadOperand
-    ensures { result ≡ exact x }
-{
-    let value = x.value;
-    ReadOperand {
-        refusal: x.refusal,
-        number: EXACT,
-        value,
+    match place_among(&KIND_WORDS, s) {
+        Some(k) => Ok(((k as u8) + ANY, Value::ZERO)),
+        None => Ok((EXACT, text::read_value(s)?)),
     }
 }
 
-// What follows `start=`: a process and a behaviour.
-fn read_start(rest: &[u8], count: u8) -> Start
-    ensures { result ≡ start_of count (fields_of rest.now) }
+// Which of some words it is, from 0, by their numbers.
+fn place_among(table: &[u64], word: &[u8]) -> Option<usize>
+    ensures { (words : List (List ℕ)) → table.now ≡ map packed words → IsTrue (all_of is_word words) → result ≡ found (index_of word.now words) (length words) }
 {
-    if text::count_fields(rest) == 2 {
-        let i = text::read_ranged(text::field(rest, 0), 1, 16);
-        let b = text::read_ranged(text::field(rest, 1), 1, count);
-        return Start {
-            refusal: worse(i.refusal, b.refusal),
-            process: ProcessNumber(i.number),
-            behaviour: BehaviourNumber(b.number),
-        };
-    }
-    no_start(MALFORMED)
+    words::place_of(table, words::word_code(word)?)
 }
 
-fn no_start(refusal: u8) -> Start
-    ensures { result ≡ no_start refusal }
+// What follows `start=`: a process and a behaviour. 11 is told before 12.
+#[tactic(auto, using(crate::proofs::Starts::pairs), unfolding(crate::specs::Lines::start_of))]
+fn read_start(rest: &[u8], count: u8) -> Result<Start, Fault>
+    ensures { fault_told start_read result ≡ start (start_of count (fields_of rest.now)) }
 {
-    Start {
-        refusal,
-        process: ProcessNumber(0),
-        behaviour: BehaviourNumber(0),
+    if text::count_fields(rest) != 2 {
+        return Err(Fault::Malformed);
     }
-}
-
-// 13, where its process is not above the last.
-fn rising(s: Start, last: ProcessNumber) -> Start
-    ensures { result ≡ risen last s }
-{
-    if s.refusal != 0 {
-        return s;
+    let behaviour = text::read_ranged(text::field(rest, 1), 1, count);
+    match text::read_ranged(text::field(rest, 0), 1, 16) {
+        Ok(i) => Ok(Start {
+            process: ProcessNumber(i),
+            behaviour: BehaviourNumber(behaviour?),
+        }),
+        Err(Fault::OutOfRange) => Err(behaviour.err().unwrap_or(Fault::OutOfRange)),
+        Err(Fault::Malformed) => Err(Fault::Malformed),
     }
-    if last.0 < s.process.0 {
-        return s;
-    }
-    no_start(NOT_RISING)
 }

@@ -3,22 +3,21 @@
 --   write_allowed   others: what is told and shown of their text
 use mathlib.Core.Bool.{Bool, true, false}
 use mathlib.Core.List.{List}
-use mathlib.Core.Path.{◌≡◌, sym, ap, ◌∙◌}
+use mathlib.Core.Path.{◌≡◌, sym, ◌∙◌}
 use Prim.Native.Nat.{ℕ}
 use Rattle.node.specs.declared.Start.{Start}
 use Rattle.rules.specs.Answers.{not_sound}
 use Rattle.rules.specs.Behaviours.{Instruction}
-use Rattle.listing.specs.declared.Listed.{Listed}
-use Rattle.listing.specs.Answers.{refused_with, told, shown}
-use Rattle.plan_writer.specs.Answers.{plan_sound, written, write_told, write_shown}
+use Rattle.listing.specs.Answers.{Listed, refused_with, told, shown}
+use Rattle.plan_writer.specs.Answers.{plan_sound, write_told, write_shown}
 use Rattle.plan_writer.specs.Texts.{plan_text}
 
 module _ (codes : List (List Instruction)) (starts : List Start) (o : List ℕ) {t : Bool} (is : t ≡ plan_sound codes starts) where
-  pub write_refused : t ≡ false → (written (refused_with not_sound) ≡ write_told codes starts o) × (o ≡ write_shown codes starts o)
+  pub write_refused : t ≡ false → (refused_with not_sound ≡ write_told codes starts o) × (o ≡ write_shown codes starts o)
   unfolding write_told write_shown
   write_refused e = (rw (sym is ∙ e), rw (sym is ∙ e))
 
   pub write_allowed : {r : Listed} {m : List ℕ} → t ≡ true → (r ≡ told o (plan_text codes starts)) × (m ≡ shown o (plan_text codes starts))
-      → (written r ≡ write_told codes starts o) × (m ≡ write_shown codes starts o)
+      → (r ≡ write_told codes starts o) × (m ≡ write_shown codes starts o)
   unfolding write_told write_shown
-  write_allowed e p = (rw (sym is ∙ e) (ap written p.0), rw (sym is ∙ e) p.1)
+  write_allowed e p = (rw (sym is ∙ e) p.0, rw (sym is ∙ e) p.1)

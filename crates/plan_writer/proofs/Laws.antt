@@ -1,11 +1,12 @@
 -- Laws of plan text, in the order in which the code writes it. Assumes nothing.
---   left_op ops_end code_wrote    a loop over the ops of a behaviour: one more, and the end; the line `code=` before them
---   left_code codes_end          a loop over the behaviours
---   op_word_text                 the letters of the number of an op's word are the word
---   exact_text kind_text_lem     a clause's kind: one exact value, and a word
---   left_operand operands_end   a loop over the operands of an op: one more, and the end
---   left_start starts_end        a loop over the starts of a row
---   plan_parts                   the parts of a plan
+--   left_op ops_end               a loop over the ops of a behaviour: one more, and the end;  code_wrote  the line `code=` before them
+--   code_slice                    a behaviour, where it stands among the ops
+--   left_code codes_end           a loop over the behaviours
+--   op_word_text                  the letters of the number of an op's word are the word
+--   exact_text kind_text_lem      a clause's kind: one exact value, and a word
+--   left_operand operands_end     a loop over the operands of an op: one more, and the end
+--   left_start starts_end         a loop over the starts of a row
+--   plan_parts                    the parts of a plan
 use mathlib.Core.Bool.{true, cond}
 use mathlib.Core.List.{List, [], ◌∷◌, ◌++◌, append_assoc, map}
 use mathlib.Core.Path.{◌≡◌, refl, sym, ap, ◌∙◌}
@@ -13,7 +14,7 @@ use Prim.Native.Nat.{ℕ, ◌+◌, ◌*◌, ◌-◌, ◌≤◌, ◌<◌}
 use native.Mathlib.Omega.{arith}
 use borrow.Author.Tests.{eq-eqb, ne_eqb}
 use lib.Dec.{eqb}
-use lib.ListN.{length, drop, get_or}
+use lib.ListN.{length, take, drop, get_or, length-map, length-drop, get_or-map}
 use Rattle.node.specs.declared.Behaviours.{Behaviours}
 use Rattle.node.specs.declared.Op.{Op}
 use Rattle.node.specs.declared.OperandKind.{OperandKind}
@@ -27,12 +28,12 @@ use Rattle.node.specs.Ops.{kinds_of, operand_counts, operand_kind, op_words}
 use Rattle.node.specs.Starts.{no_start, starts_in}
 use Rattle.node.specs.Texts.{bytes}
 use Rattle.node.specs.Values.{any_kind, exact_kind, int_zero}
-use Rattle.node.proofs.Lists.{firsts_get_d, firsts_length}
+use Rattle.node.proofs.Lists.{firsts_get_d, firsts_length, firsts_take}
 use Rattle.node.proofs.Ops.{kinds_length}
 use Rattle.rules.specs.Behaviours.{Instruction, Operand, instruction, operand}
 use Rattle.rules.proofs.All.{all_of_any}
 use Rattle.behaviours.specs.Codes.{code_in, codes_in}
-use Rattle.behaviours.proofs.Codes.{code_at, code_length, codes_at, codes_length}
+use Rattle.behaviours.proofs.Codes.{codes_at, codes_length}
 use Rattle.text.specs.Values.{value_text}
 use Rattle.text.specs.Writing.{Wrote, each, number_line}
 use Rattle.text.proofs.Writing.{Left, each_append, each_map, left_end, left_item, wrote_as, ◌▸◌}
@@ -55,21 +56,29 @@ code_text_lem : (code : List Instruction) → each ended (code_rows code) ≡ nu
 unfolding code_rows each number_line
 code_text_lem code = ap (λ (l : List ℕ). number_line code_key (length code) ++ l) (each_map ended op_row code)
 
-module _ (n : ℕ) (ops : List Op) (k t : ℕ) {old m : List ℕ} {a e : ℕ} (p : Left old a (each op_text (code_in n ops k)) m e (each op_text (drop t (code_in n ops k)))) where
-  pub left_op : {u : List ℕ} {r : ℕ} → t < n → Wrote m e (op_text (instruction (get_or ops (32 * k + t) no_op))) u r
-      → Left old a (each op_text (code_in n ops k)) u r (each op_text (drop (t + 1) (code_in n ops k)))
+module _ (ops : List Op) (t : ℕ) {old m : List ℕ} {a e : ℕ} (p : Left old a (each op_text (map instruction ops)) m e (each op_text (drop t (map instruction ops)))) where
+  pub left_op : {u : List ℕ} {r : ℕ} → t < length ops → Wrote m e (op_text (instruction (get_or ops t no_op))) u r
+      → Left old a (each op_text (map instruction ops)) u r (each op_text (drop (t + 1) (map instruction ops)))
   left_op h q =
-      left_item op_text (code_in n ops k) t p (instruction no_op) (omega (arith, code_length n ops k)) (wrote_as (ap op_text (sym (code_at n ops k t h))) q)
+      left_item op_text (map instruction ops) t p (instruction no_op) (omega (arith, length-map ops instruction))
+      (wrote_as (ap op_text (sym (get_or-map instruction ops t no_op))) q)
 
-  pub ops_end : n ≤ t → Wrote old a (each op_text (code_in n ops k)) m e
-  ops_end h = left_end op_text (code_in n ops k) t p (omega (arith, code_length n ops k))
+  pub ops_end : length ops ≤ t → Wrote old a (each op_text (map instruction ops)) m e
+  ops_end h = left_end op_text (map instruction ops) t p (omega (arith, length-map ops instruction))
 
 -- the line `code=` and the ops behind it
-pub code_wrote : (n : ℕ) (ops : List Op) (k : ℕ) {old m u : List ℕ} {a e r : ℕ} → Wrote old a (number_line code_key n) m e → Wrote m e (each op_text (code_in n ops k)) u r
-    → Wrote old a (each ended (code_rows (code_in n ops k))) u r
-code_wrote n ops k p q =
-    let text = ap (λ (j : ℕ). number_line code_key j ++ each op_text (code_in n ops k)) (sym (code_length n ops k)) in
-    wrote_as (text ∙ sym (code_text_lem (code_in n ops k))) (p ▸ q)
+pub code_wrote : (ops : List Op) {old m u : List ℕ} {a e r : ℕ} → Wrote old a (number_line code_key (length ops)) m e → Wrote m e (each op_text (map instruction ops)) u r
+    → Wrote old a (each ended (code_rows (map instruction ops))) u r
+code_wrote ops p q =
+    let text = ap (λ (j : ℕ). number_line code_key j ++ each op_text (map instruction ops)) (sym (length-map ops instruction)) in
+    wrote_as (text ∙ sym (code_text_lem (map instruction ops))) (p ▸ q)
+
+-- behaviour k, where it stands among the ops
+pub code_slice : (n : ℕ) (ops : List Op) (k : ℕ) {j : ℕ} → j ≡ n → 32 * k + n ≤ length ops → map instruction (take j (drop (32 * k) ops)) ≡ code_in n ops k
+unfolding code_in
+code_slice n ops k e h =
+    ap (λ (i : ℕ). map instruction (take i (drop (32 * k) ops))) e
+    ∙ ap (map instruction) (sym (firsts_take no_op n (drop (32 * k) ops) (omega (arith, length-drop (32 * k) ops))))
 
 -- ---- all behaviours
 

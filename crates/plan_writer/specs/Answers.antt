@@ -4,7 +4,6 @@
 --   starts_rise c last ss     so does each of some starts, each behind the one before
 --   starts_sound c starts     1 to 16 starts that rise
 --   plan_sound codes starts   the form of a plan: what some accepted plan text holds
---   written x                 what is told of a text that is listed, told of one that is written
 --   write_told codes starts old    the answer of `write_plan` on the buffer `old`: 31, 30, or the length
 --   write_shown codes starts old   the buffer behind it
 use Rattle.std.specs.Prelude.{Bool, true, ◌&&◌, cond, List, [], ◌∷◌, ℕ, leb, ltb, length}
@@ -14,9 +13,7 @@ use Rattle.node.specs.Lists.{all_of}
 use Rattle.rules.specs.Answers.{not_sound}
 use Rattle.rules.specs.Behaviours.{Instruction, code_sound}
 use Rattle.behaviours.specs.Codes.{codes_in}
-use Rattle.listing.specs.declared.Listed.{Listed}
-use Rattle.listing.specs.Answers.{refused_with, told, shown}
-use Rattle.plan_writer.specs.declared.Written.{Written}
+use Rattle.listing.specs.Answers.{Listed, refused_with, told, shown}
 use Rattle.plan_writer.specs.Texts.{plan_text}
 
 abbrev pub codes_of : Behaviours → List (List Instruction)
@@ -40,12 +37,9 @@ plan_sound codes starts =
     leb 1 (length codes) && leb (length codes) 8 && all_of (code_sound (length codes)) codes
     && starts_sound (length codes) starts
 
-abbrev pub written : Listed → Written
-written x = record { number = x.number; length = x.length }
-
 -- "turned down as 31"; "A buffer too short is 30 and stays unchanged", and one as long as the text is enough
-unfoldable pub write_told : List (List Instruction) → List Start → List ℕ → Written
-write_told codes starts old = written (cond (plan_sound codes starts) (told old (plan_text codes starts)) (refused_with not_sound))
+unfoldable pub write_told : List (List Instruction) → List Start → List ℕ → Listed
+write_told codes starts old = cond (plan_sound codes starts) (told old (plan_text codes starts)) (refused_with not_sound)
 
 unfoldable pub write_shown : List (List Instruction) → List Start → List ℕ → List ℕ
 write_shown codes starts old = cond (plan_sound codes starts) (shown old (plan_text codes starts)) old

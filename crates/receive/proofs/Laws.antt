@@ -1,31 +1,24 @@
--- A clause's kind, one law for each answer of `fits`; a part of an array; the turns of a search: over the messages that are left, and for one message
--- over the clauses that are left; the count of what it consults, by the same turns; its answer, by the first fit; and a process at a recv, by its
--- stage. Assumes nothing.
-use mathlib.Core.Bool.{Bool, true, false, ◌&&◌}
+-- A clause's kind, one law for each answer of `fits`; a part of a list; the turns of a search: over the messages that are left, and for one message
+-- over the clauses that are left; the count of what it consults, by the same turns; and its answer, by the first fit. Assumes nothing.
+use mathlib.Core.Bool.{true, false}
 use mathlib.Core.List.{List, [], ◌∷◌}
-use mathlib.Core.Option.{Option, none, some}
-use mathlib.Core.Path.{◌≡◌, refl, ◌∙◌, sym, ap}
+use mathlib.Core.Option.{Option, some}
+use mathlib.Core.Path.{◌≡◌, refl, ◌∙◌, ap}
 use Prim.Native.Nat.{ℕ, zero, suc, ◌+◌, ◌-◌, ◌<◌, ◌≤◌, min}
-use native.Mathlib.Nat.{add-zero, mul-le-mul_right}
+use native.Mathlib.Nat.{mul-le-mul_right}
 use native.Mathlib.Numerals.{add-one}
 use native.Mathlib.Omega.{arith}
-use borrow.Author.Tests.{ne_eqb, leb-true, leb-false}
-use lib.Dec.{eqb, leb, ltb}
-use lib.ListN.{length, get_or, take, drop, length-take, length-drop, drop_of_length-le}
-use lib.Seq.{drop-cons, get_or-take, get_or-drop}
+use borrow.Author.Tests.{ne_eqb}
+use lib.Dec.{eqb}
+use lib.ListN.{length, get_or, take, drop, length-drop, drop_of_length-le}
+use lib.Seq.{drop-cons, take-length}
 use Rattle.node.specs.declared.Message.{Message}
 use Rattle.node.specs.declared.Op.{Op}
-use Rattle.node.specs.declared.Process.{Process}
-use Rattle.node.specs.declared.Stage.{Stage}
 use Rattle.node.specs.Nodes.{no_op}
-use Rattle.node.specs.Ops.{recv_op}
 use Rattle.node.specs.Values.{exact_kind, any_kind, message_kind}
 use Rattle.rules.specs.Consult.{one_can_take, tried, consulted}
 use Rattle.rules.specs.Receive.{Fit, is_value, fits, first_clause, search, Searched, silent, unfit, fit, answered}
-use Rattle.rules.specs.Timeout.{is_live}
 use Rattle.rules.proofs.Consult.{few_consulted}
-use Rattle.receive.specs.Found.{fit_index}
-use Rattle.receive.specs.Waiting.{awaits}
 
 -- ---- a clause's kind: one law for each answer of `fits`
 
@@ -42,7 +35,7 @@ module _ (c : Op) (m : Message) where
   unfolding fits
   fits_kind h g = rw (ne_eqb c.small exact_kind h, ne_eqb c.small any_kind g)
 
--- ---- a part of an array of 256: n elements from `at` on, of which those that are there stand from `low` to before `end`
+-- ---- a part of a list
 
 module _ {A : Type 0} where
   same_take : (n m : ℕ) (l : List A) → min n (length l) ≡ min m (length l) → take n l ≡ take m l
@@ -54,30 +47,13 @@ module _ {A : Type 0} where
   same_take (suc n) (suc m) [] e = refl
   same_take (suc n) (suc m) (x ∷ l) e = ap (λ (t : List A). x ∷ t) (same_take n m l (omega (arith, e)))
 
-  module _ (xs : List A) (size : length xs ≡ 256) (at n : ℕ) {low end : ℕ} (l : low ≡ min at 256) (e : end ≡ min (low + n) 256) where
-    from_low : drop low xs ≡ drop at xs
-    from_low = go (leb at 256) refl
-      where
-        go : (b : Bool) → leb at 256 ≡ b → drop low xs ≡ drop at xs
-        go true h =
-            let inside = leb-true at 256 h in
-            let same : low ≡ at = omega (arith, l, inside) in
-            ap (λ (k : ℕ). drop k xs) same
-        go false h =
-            let past = leb-false at 256 h in
-            drop_of_length-le xs {i = low} (omega (arith, size, l, past)) ∙ sym (drop_of_length-le xs {i = at} (omega (arith, size, past)))
+  -- the first n elements are those that are there of them
+  pub part_first : (xs : List A) (n : ℕ) {k : ℕ} → k ≡ min (length xs) n → take k xs ≡ take n (drop 0 xs)
+  part_first xs n {k = k} e = same_take k n xs (omega (arith, e))
 
-    pub part_length : length (take n (drop at xs)) ≡ end - low
-    part_length = length-take n (drop at xs) ∙ (let d = length-drop at xs in omega (arith, d, size, l, e))
-
-    pub part_within : take (end - low) (drop low xs) ≡ take n (drop at xs)
-    part_within = ap (take (end - low)) from_low ∙ same_take (end - low) n (drop at xs) (let d = length-drop at xs in omega (arith, d, size, l, e))
-
-    pub part_read : (d : A) (k : ℕ) → low ≤ k → k < end → get_or (take n (drop at xs)) (k - low) d ≡ get_or xs k d
-    part_read d k h g =
-        let there : low + (k - low) ≡ k = omega (arith, h) in
-        get_or-take n (drop at xs) (k - low) d (omega (arith, h, g, e)) ∙ ap (λ (t : List A). get_or t (k - low) d) (sym from_low)
-        ∙ get_or-drop low xs (k - low) d ∙ ap (λ (j : ℕ). get_or xs j d) there
+  -- the part from a to the end
+  pub part_behind : (xs : List A) (a : ℕ) → take (length xs - a) (drop a xs) ≡ drop a xs
+  part_behind xs a = same_take (length xs - a) (length (drop a xs)) (drop a xs) (let d = length-drop a xs in omega (arith, d)) ∙ take-length (drop a xs)
 
 -- ---- the turns of a search for g, whose messages are ms and whose clauses are cs
 
@@ -86,15 +62,9 @@ module _ (ms : List Message) (cs : List Op) (i : ℕ) (d : Message) {g : Option 
   pub message_turn : i < length ms → g ≡ search cs i (drop i ms) → g ≡ first_clause (drop 0 cs) i (get_or ms i d) (search cs (i + 1) (drop (i + 1) ms))
   message_turn h e = e ∙ rw (drop-cons ms i d h, add-one i)
 
-  pub message_end : length ms ≤ i → g ≡ search cs i (drop i ms) → g ≡ none
-  message_end h e = e ∙ rw (drop_of_length-le ms {i = i} h)
-
 module _ (cs : List Op) (i k : ℕ) (m : Message) (later : Option Fit) {g : Option Fit} where
   pub clause_hit : k < length cs → fits (get_or cs k no_op) m ≡ true → g ≡ first_clause (drop k cs) i m later → g ≡ some (record { index = i; message = m; clause = get_or cs k no_op })
   clause_hit h f e = e ∙ rw (drop-cons cs k no_op h, f)
-
-  pub clause_miss : k < length cs → fits (get_or cs k no_op) m ≡ false → g ≡ first_clause (drop k cs) i m later → g ≡ first_clause (drop (k + 1) cs) i m later
-  clause_miss h f e = e ∙ rw (drop-cons cs k no_op h, f, add-one k)
 
   pub clause_end : length cs ≤ k → g ≡ first_clause (drop k cs) i m later → g ≡ later
   clause_end h e = e ∙ rw (drop_of_length-le cs {i = k} h)
@@ -110,16 +80,7 @@ module _ (ms : List Message) (cs : List Op) (i : ℕ) (d : Message) (n : ℕ) {g
   pub count_left_out : i < length ms → one_can_take cs (message_kind (get_or ms i d)) ≡ false → g ≡ n + consulted cs (drop i ms) → g ≡ n + consulted cs (drop (i + 1) ms)
   count_left_out h t e = e ∙ rw (drop-cons ms i d h, t, add-one i)
 
-  pub count_over : length ms ≤ i → g ≡ n + consulted cs (drop i ms) → g ≡ n
-  count_over h e = e ∙ rw (drop_of_length-le ms {i = i} h) (add-zero n)
-
 module _ (cs : List Op) (k : ℕ) (m : Message) (later n : ℕ) {g : ℕ} where
-  pub count_hit : k < length cs → fits (get_or cs k no_op) m ≡ true → g ≡ n + tried (drop k cs) m later → g ≡ n + 1
-  count_hit h f e = e ∙ rw (drop-cons cs k no_op h, f)
-
-  pub count_miss : k < length cs → fits (get_or cs k no_op) m ≡ false → g ≡ n + tried (drop k cs) m later → g ≡ n + 1 + tried (drop (k + 1) cs) m later
-  count_miss h f e = e ∙ rw (drop-cons cs k no_op h, f, add-one k) (omega arith)
-
   pub count_end : length cs ≤ k → g ≡ n + tried (drop k cs) m later → g ≡ n + later
   count_end h e = e ∙ rw (drop_of_length-le cs {i = k} h)
 
@@ -137,24 +98,6 @@ abbrev pub so_far : ℕ → Searched
 so_far zero = silent
 so_far (suc k) = unfit
 
--- no message leaves
-pub so_far_index : (k j : ℕ) → fit_index k (so_far j) ≡ k
-so_far_index k zero = refl
-so_far_index k (suc j) = refl
-
 module _ (ms : List Message) {f : Option Fit} where
-  pub answered_none : f ≡ none → answered f ms ≡ so_far (length ms)
-  answered_none e = rw e (go ms)
-    where
-      go : (ms : List Message) → answered none ms ≡ so_far (length ms)
-      go [] = refl
-      go (m ∷ ms) = refl
-
   pub answered_fit : {x : Fit} → f ≡ some x → answered f ms ≡ fit x
   answered_fit e = rw e
-
--- ---- a process at a recv
-
-pub awaits_at : (p : Process) (len : ℕ) (o : Op) {s : Stage} → p.stage ≡ s → (is_live s && ltb p.place len && eqb o.number recv_op) ≡ awaits p len o
-unfolding awaits
-awaits_at p len o e = sym (ap (λ (s : Stage). is_live s && ltb p.place len && eqb o.number recv_op) e)

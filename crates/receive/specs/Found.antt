@@ -1,24 +1,25 @@
 -- What the search of a mailbox answers, and what follows from its answer.
 --   found_of x           what an answer of the code stands for: with the number of document 01 for each (rules Receive, `search_number`), it says of
---                       `Silent` 25, of `Unfit` 29, of `Fit` 0 with the message's index, the clause and the message
+--                       `Err Silent` 25, of `Err Unfit` 29, of `Ok` 0 with the message's index, the clause and the message
 --   after_search p s     process p behind a recv whose search answers s: as it was where nothing fits
 --   fit_index none s     the index of the message that leaves; `none` where none does
 --   clauses_in ops at n  n clauses, from op `at` on;  mail_in slots first n  n messages, from slot `first` on; past the end of an array stand none
 --   searched_in cs ms    what the search of mailbox ms by the clauses cs answers: document 01's first fit, and M-104's numbers
-use Rattle.std.specs.Prelude.{List, map, ℕ, take, drop}
+use Rattle.std.specs.Prelude.{List, map, ℕ, take, drop, Result, Ok, Err}
 use Rattle.node.specs.declared.Message.{Message}
 use Rattle.node.specs.declared.Op.{Op}
 use Rattle.node.specs.declared.Process.{Process}
 use Rattle.node.specs.declared.Slot.{Slot}
 use Rattle.node.specs.Processes.{moved}
 use Rattle.rules.specs.Receive.{Searched, silent, unfit, fit, answered, search, with_message}
-use Rattle.receive.specs.declared.Found.{Found}
-use Rattle.receive.specs.declared.Found.TheVariants.{Silent, Unfit, Fit}
+use Rattle.receive.specs.declared.Fit.{Fit}
+use Rattle.receive.specs.declared.NoFit.{NoFit}
+use Rattle.receive.specs.declared.NoFit.TheVariants.{Silent, Unfit}
 
-abbrev pub found_of : Found → Searched
-found_of Silent = silent
-found_of Unfit = unfit
-found_of (Fit i c m) = fit (record { index = i; message = m; clause = c })
+abbrev pub found_of : Result Fit NoFit → Searched
+found_of (Err Silent) = silent
+found_of (Err Unfit) = unfit
+found_of (Ok f) = fit (record { index = f.index; message = f.message; clause = f.clause })
 
 abbrev pub after_search : Process → Searched → Process
 after_search p silent = p

@@ -1,34 +1,41 @@
 // Receiving: which message a clause takes, which kinds clauses can take, the search of a mailbox, what a process makes of its answer, and giving
-// up. The engine searches where messages and clauses stand, by the same parts as `search`; all that follows is told by the answer, here.
+// up. Messages and clauses are lent where they stand; all that follows is told by the answer, here.
 #![tactic(auto)]
 
-ghost use Rattle.std.specs.Prelude.{◌&&◌, ◌≡◌, eqb, ltb, ◌≤◌, ◌-◌, min, take, drop};
+ghost use Rattle.std.specs.Prelude.{IfOk, ◌<◌, ◌&&◌, ◌≡◌, eqb, ltb, ◌≤◌, ◌-◌, min, take, drop};
 ghost use Rattle.node.specs.Ops.{recv_op};
 ghost use Rattle.node.specs.Processes.{moved};
+ghost use Rattle.node.specs.Refusals.{refusal_told};
 ghost use Rattle.rules.specs.Consult.{consulted};
 ghost use Rattle.rules.specs.Receive.{is_value, fits, with_sender, with_message, search_number};
 ghost use Rattle.receive.specs.Found.{found_of, after_search, fit_index, clauses_in, mail_in, searched_in};
 ghost use Rattle.receive.specs.Kinds.{no_kinds, noted, noted_all, widened, takes};
-ghost use Rattle.receive.specs.Waiting.{awaits, is_fit, timeout_refusal};
+ghost use Rattle.receive.specs.Waiting.{awaits, timeout_refusal};
 
 use node::{
-    AFTER, ANY, EXACT, MAILBOX_EMPTY, Message, NO_FIT, NO_TIMEOUT, Op, Process, ProcessNumber,
-    RECV, Slot, Stage, Value, same_value,
+    AFTER, ANY, EXACT, Message, Op, Process, ProcessNumber, RECV, Refusal, Slot, Stage, Value,
+    same_value,
 };
 
-// What the search of a mailbox answers: no message is there, none of its messages fits, or the first fit, with the index of the message and the
-// clause that takes it.
+// The first message that fits: its index in the mailbox, and the clause that takes it.
 #[derive(Clone, Copy)]
-pub enum Found {
+pub struct Fit {
+    pub index: usize,
+    pub clause: Op,
+    pub message: Message,
+}
+
+// Why a search gives no fit: no message is there, or none of its messages fits.
+#[derive(Clone, Copy, Debug, PartialEq, Eq)]
+pub enum NoFit {
     Silent,
     Unfit,
-    Fit(usize, Op, Message),
 }
 
 // What a search tells: its answer, and how many clauses it consulted.
 #[derive(Clone, Copy)]
 pub struct Searched {
-    pub found: Found,
+    pub found: Result<Fit, NoFit>,
     pub consulted: usize,
 }
 
@@ -49,8 +56,7 @@ impl Kinds {
     {
         let kind = c.small;
         if kind == EXACT {
-            let w = c.value;
-            return Kinds(self.0 | (1 << w.kind()));
+            return Kinds(self.0 | (1 << c.value.kind()));
         }
         if kind < 8 {
             return Kinds(self.0 | (1 << kind));
@@ -77,7 +83,7 @@ impl Kinds {
 }
 
 // The search of a mailbox that has `count` messages, from slot `first` on, by `clauses` clauses, from op `at` on; past the end of an array stand
-// none. First the kinds that the clauses can take are noted; then clauses are consulted for messages of those kinds only.
+// none.
 pub fn search(
     slots: [Slot; 256],
     first: usize,
@@ -89,91 +95,86 @@ pub fn search(
     ensures answer { found_of result.found ≡ searched_in (clauses_in ops at clauses) (mail_in slots first count) }
     ensures count { result.consulted ≡ consulted (clauses_in ops at clauses) (mail_in slots first count) }
 {
-    let from = within(first);
-    let top = within(from + (count as usize));
-    let low = within(at);
-    let end = within(low + (clauses as usize));
-    let kinds = kinds_of(ops, low, end);
-    let mut found = Found::Silent;
+    search_in(
+        &slots[first.min(256)..],
+        count,
+        &ops[at.min(256)..],
+        clauses,
+    )
+}
+
+// The same where the messages stand first in `slots` and the clauses first in `ops`. First the kinds that the clauses can take are noted; then
+// clauses are consulted for messages of those kinds only.
+pub fn search_in(slots: &[Slot], count: u8, ops: &[Op], clauses: u8) -> Searched
+    ensures answer { found_of result.found ≡ searched_in (clauses_in ops.now 0 clauses) (mail_in slots.now 0 count) }
+    ensures count { result.consulted ≡ consulted (clauses_in ops.now 0 clauses) (mail_in slots.now 0 count) }
+    ensures within { IfOk result.found (λ f. f.index < count) }
+{
+    let mail = &slots[..slots.len().min(count as usize)];
+    let clauses = &ops[..ops.len().min(clauses as usize)];
+    let kinds = kinds_of(clauses);
+    let mut found = Err(NoFit::Silent);
     let mut consulted: usize = 0;
-    let mut slot = from;
-    'messages: while slot < top {
-        let held = slots[slot];
-        let message = held.message;
-        found = Found::Unfit;
+    'messages: for (index, slot) in mail.iter().enumerate() {
+        let message = slot.message;
+        found = Err(NoFit::Unfit);
         if kinds.takes(message) {
-            let mut c = low;
-            while c < end {
-                let clause = ops[c];
-                if fits(clause, message) {
-                    consulted += c - low + 1;
-                    found = Found::Fit(slot - from, clause, message);
+            for (k, clause) in clauses.iter().enumerate() {
+                if fits(*clause, message) {
+                    consulted += k + 1;
+                    found = Ok(Fit {
+                        index,
+                        clause: *clause,
+                        message,
+                    });
                     break 'messages;
                 }
-                c += 1;
             }
-            consulted += end - low;
+            consulted += clauses.len();
         }
-        slot += 1;
     }
     Searched { found, consulted }
 }
 
-// An index that is within an array of 256, or the end of one.
-fn within(k: usize) -> usize
-    ensures { result ≡ min k 256 }
-{
-    if k < 256 {
-        return k;
-    }
-    256
-}
-
-// The kinds that the clauses from `low` to before `end` can take.
-fn kinds_of(ops: [Op; 256], low: usize, end: usize) -> Kinds
-    requires low_le_end { low ≤ end }
-    requires end_bound { end ≤ 256 }
-    ensures { result ≡ widened (noted_all no_kinds (take (end - low) (drop low ops))) }
+// The kinds that clauses can take.
+fn kinds_of(clauses: &[Op]) -> Kinds
+    ensures { result ≡ widened (noted_all no_kinds clauses.now) }
 {
     let mut kinds = Kinds::none();
-    let mut c = low;
-    while c < end {
-        kinds = kinds.noted(ops[c]);
-        c += 1;
+    for clause in clauses {
+        kinds = kinds.noted(*clause);
     }
     kinds.widened()
 }
 
-// 25, 29, or 0.
-pub fn search_refusal(found: Found) -> u8
-    ensures { result ≡ search_number (found_of found) }
+// 25, 29, or none.
+pub fn search_refusal(found: Result<Fit, NoFit>) -> Option<Refusal>
+    ensures { refusal_told result ≡ search_number (found_of found) }
 {
     match found {
-        Found::Silent => MAILBOX_EMPTY,
-        Found::Unfit => NO_FIT,
-        Found::Fit(_, _, _) => 0,
+        Err(NoFit::Silent) => Some(Refusal::MailboxEmpty),
+        Err(NoFit::Unfit) => Some(Refusal::NoFit),
+        Ok(_) => None,
     }
 }
 
 // Process p behind a recv whose search answered `found`; as it was where nothing fits.
-pub fn after_search(p: Process, found: Found) -> Process
+pub fn after_search(p: Process, found: Result<Fit, NoFit>) -> Process
     ensures { result ≡ after_search p (found_of found) }
 {
     match found {
-        Found::Silent => p,
-        Found::Unfit => p,
-        Found::Fit(_, c, m) => taken(p, c, m),
+        Ok(fit) => taken(p, fit.clause, fit.message),
+        Err(_) => p,
     }
 }
 
-// The index of the message that leaves the mailbox; `none` where none does.
-pub fn fit_index(found: Found, none: usize) -> usize
+// The index of the message that leaves the mailbox; `none` where none does, since docs/PROMISES.md promises this function so.
+pub fn fit_index(found: Result<Fit, NoFit>, none: usize) -> usize
     ensures { result ≡ fit_index none (found_of found) }
 {
     match found {
-        Found::Silent => none,
-        Found::Unfit => none,
-        Found::Fit(i, _, _) => i,
+        Ok(fit) => fit.index,
+        Err(_) => none,
     }
 }
 
@@ -188,15 +189,11 @@ fn taken(p: Process, c: Op, m: Message) -> Process
 pub fn fits(c: Op, m: Message) -> bool
     ensures { result ≡ fits c m }
 {
-    let kind = c.small;
-    if kind == EXACT {
-        let w = c.value;
-        return is_value(w, m);
+    match c.small {
+        EXACT => is_value(c.value, m),
+        ANY => true,
+        kind => kind == m.kind(),
     }
-    if kind == ANY {
-        return true;
-    }
-    kind == m.kind()
 }
 
 // Message m is value w; a note or a down is none.
@@ -205,8 +202,7 @@ fn is_value(w: Value, m: Message) -> bool
 {
     match m {
         Message::Plain(v) => same_value(v, w),
-        Message::Note(_, _) => false,
-        Message::Down(_, _) => false,
+        _ => false,
     }
 }
 
@@ -216,8 +212,7 @@ fn with_message(p: Process, c: Op, m: Message) -> Process
 {
     match m {
         Message::Plain(v) => p.with_register(c.r, v),
-        Message::Note(j, v) => with_sender(p, c, j, v),
-        Message::Down(j, v) => with_sender(p, c, j, v),
+        Message::Note(j, v) | Message::Down(j, v) => with_sender(p, c, j, v),
     }
 }
 
@@ -229,53 +224,34 @@ fn with_sender(p: Process, c: Op, j: ProcessNumber, v: Value) -> Process
 }
 
 // Whether a process, whose code has len ops and which is at op, is live at a recv.
+#[tactic(auto, using(std::proofs::lemmas::Bool::Decides::nat_tests), unfolding(crate::specs::Waiting::awaits))]
 pub fn awaits(p: Process, len: u8, op: Op) -> bool
     ensures { result ≡ awaits p len op }
 {
-    let stage = p.stage;
-    match stage {
-        Stage::Unborn => false,
-        Stage::Live => awaits_live(p, len, op),
-        Stage::Closing => false,
-        Stage::Gone => false,
-    }
-}
-
-fn awaits_live(p: Process, len: u8, op: Op) -> bool
-    ensures { result ≡ (ltb p.place len && eqb op.number recv_op) }
-{
-    if len <= p.place {
-        return false;
-    }
-    op.number == RECV
+    matches!(p.stage, Stage::Live) && p.place < len && op.number == RECV
 }
 
 // 28: the refusal of a timeout at the recv at `place` of a code of len ops, where the search of the mailbox answered `found` and `behind` is
 // what stands behind its clauses, if that is within the code.
 #[tactic(auto, using(std::proofs::lemmas::Bool::Decides::nat_tests), unfolding(crate::specs::Waiting::timeout_refusal))]
-pub fn timeout_refusal(found: Found, place: u8, clauses: u8, len: u8, behind: Op) -> u8
-    ensures { result ≡ timeout_refusal (found_of found) place clauses len behind }
+pub fn timeout_refusal(
+    found: Result<Fit, NoFit>,
+    place: u8,
+    clauses: u8,
+    len: u8,
+    behind: Op,
+) -> Option<Refusal>
+    ensures { refusal_told result ≡ timeout_refusal (found_of found) place clauses len behind }
 {
-    if is_fit(found) {
-        return NO_TIMEOUT;
+    if found.is_ok() {
+        return Some(Refusal::NoTimeout);
     }
     let at = (place as u16) + 1 + (clauses as u16);
     if (len as u16) <= at {
-        return NO_TIMEOUT;
+        return Some(Refusal::NoTimeout);
     }
     if behind.number != AFTER {
-        return NO_TIMEOUT;
+        return Some(Refusal::NoTimeout);
     }
-    0
-}
-
-// The search found a message that fits.
-fn is_fit(found: Found) -> bool
-    ensures { result ≡ is_fit (found_of found) }
-{
-    match found {
-        Found::Silent => false,
-        Found::Unfit => false,
-        Found::Fit(_, _, _) => true,
-    }
+    None
 }

@@ -15,8 +15,7 @@ use Rattle.rules.specs.Behaviours.{instruction, operand}
 use Rattle.behaviours.specs.Codes.{code_in, codes_in}
 use Rattle.text.specs.Values.{number_text, value_text}
 use Rattle.text.specs.Writing.{digits, digits_in, each, int_text}
-use Rattle.plan.specs.declared.Loaded.{Loaded}
-use Rattle.plan.specs.Plans.{load_of, node_of}
+use Rattle.plan.specs.Plans.{Loaded, load_of, node_of}
 use Rattle.plan.proofs.Examples.{op_with, sample, sample_plan, start_with}
 use Rattle.plan_writer.specs.Texts.{code_rows, codes_rows, kind_text, op_row, operand_text, operands_text, plan_rows, plan_text, start_row}
 use Rattle.round_trip.specs.Guarantees.{codes_held, starts_held}

@@ -33,7 +33,7 @@ use Rattle.text.specs.Values.{number_text, value_text}
 use Rattle.text.specs.Writing.{digits, int_text}
 use Rattle.text.proofs.Digits.{digits_some}
 use Rattle.text.proofs.Parts.{equal_true}
-use Rattle.plan_line.specs.declared.Coded.{Coded}
+use Rattle.plan_line.specs.Ops.{Coded}
 use Rattle.plan_line.specs.Lines.{op, op_key, op_line, op_told}
 use Rattle.plan_line.specs.Ops.{bare, clause_kind, clause_words, coded_of, no_code, operand_of, operands_of, op_of, ranged, with_joined, with_operand, worse}
 use Rattle.plan_line.proofs.InRange.{apart, distinct, distinct_kinds, operands_number, operands_untouched}

@@ -24,7 +24,7 @@ use Rattle.rules.specs.Behaviours.{code_sound, in_range, Instruction, instructio
 use Rattle.rules.proofs.All.{all_of_join, all_of_map, both, parts}
 use Rattle.placement.specs.Misplaced.{first_code, misplaced_from}
 use Rattle.placement.proofs.Placed.{misplaced_sound}
-use Rattle.plan_line.specs.declared.Start.{Start as ReadStart}
+use Rattle.plan_line.specs.Lines.{Start as ReadStart}
 use Rattle.plan_line.specs.Lines.{behaviours_key, code_key, count_line, header, header_line, op_line, start_line, starts_key}
 use Rattle.plan.specs.Plans.{before_first, checked, code_lines, last_from, load_of, misplaced, more, node_of, Plan, plan_lines, start_lines, start_more}
 use Rattle.plan.specs.Reading.{end_of, good, Left, on_line, Read, times}

@@ -22,8 +22,7 @@ use Rattle.rules.specs.Nodes.{behaviours_of, code}
 use Rattle.rules.proofs.All.{both, parts}
 use Rattle.rules.proofs.Commits.{parts_of}
 use Rattle.behaviours.specs.Codes.{code_in, codes_in}
-use Rattle.plan.specs.declared.Loaded.{Loaded}
-use Rattle.plan.specs.Plans.{Plan, load_of, node_of}
+use Rattle.plan.specs.Plans.{Loaded, Plan, load_of, node_of}
 use Rattle.plan.proofs.Behaviours.{behaviours_of_lem}
 use Rattle.plan.proofs.Kept.{PlanKept}
 use Rattle.plan.proofs.Sound.{loaded_sound}

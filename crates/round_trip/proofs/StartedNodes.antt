@@ -25,7 +25,7 @@ use Rattle.node.specs.Starts.{live_from, no_start, node_starts, row_of, start_if
 use Rattle.node.specs.Values.{int_zero}
 use Rattle.node.proofs.Lists.{firsts_take}
 use Rattle.rules.proofs.All.{parts}
-use Rattle.plan_line.specs.declared.Start.{Start as ReadStart}
+use Rattle.plan_line.specs.Lines.{Start as ReadStart}
 use Rattle.plan.specs.Plans.{empty_node, node_of, Plan, with_code, with_each, with_start}
 use Rattle.plan.proofs.Sound.{each_keeps}
 use Rattle.plan_writer.specs.Answers.{start_fits, starts_rise, starts_sound}

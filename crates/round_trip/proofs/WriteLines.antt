@@ -18,15 +18,14 @@ use Rattle.node.specs.declared.ProcessNumber.{ProcessNumber}
 use Rattle.node.specs.Texts.{bytes}
 use Rattle.rules.specs.Answers.{done}
 use Rattle.rules.proofs.All.{both}
-use Rattle.text.specs.declared.Ranged.{Ranged}
-use Rattle.text.specs.Numbers.{malformed, number_of, no_number, ranged_of}
+use Rattle.text.specs.Numbers.{malformed, number_of, Ranged, no_number, ranged_of}
 use Rattle.text.specs.Parts.{line_byte, in_front, split, fields_of, line_then, last_apart, lines_of, equal, starts_with}
 use Rattle.text.specs.Writing.{digits, each}
 use Rattle.text.proofs.Parts.{equal_true, split_some}
-use Rattle.plan_line.specs.declared.Start.{Start}
+use Rattle.plan_line.specs.Lines.{Start}
 use Rattle.plan_line.specs.Lines.{header, start_key, not_rising, behind_key, header_told, count_told, header_line, count_line, no_start, start_of, risen, start_told, start_line}
 use Rattle.plan_line.proofs.Ranges.{worse_none, start_kept_lem}
-use Rattle.plan.proofs.Kept.{answered_done}
+use Rattle.plan_line.proofs.Told.{answered_done}
 use Rattle.plan_writer.specs.Answers.{start_fits}
 use Rattle.plan_writer.specs.Texts.{numbered, start_row, ended}
 use Rattle.round_trip.proofs.WriteNumbers.{starts_written, ranged_written}

@@ -20,10 +20,9 @@ use Rattle.node.specs.Texts.{bytes}
 use Rattle.node.specs.Values.{pid}
 use Rattle.rules.specs.Answers.{Answer, refused, done, need}
 use Rattle.rules.proofs.All.{parts}
-use Rattle.text.specs.declared.Parsed.{Parsed}
 use Rattle.text.specs.Numbers.{malformed, out_of_range, is_digit, unsigned_form, negative, unsigned, number_form, digit_value, decimal, number_value, ceiling, Signed, number_of, no_number, ranged_of}
 use Rattle.text.specs.Parts.{equal, starts_with}
-use Rattle.text.specs.Values.{no_value, read_as, plus_of, minus_of, int_of, ranged_value, by_letter, value_of, number_text, value_text}
+use Rattle.text.specs.Values.{Parsed, no_value, read_as, plus_of, minus_of, int_of, ranged_value, by_letter, value_of, number_text, value_text}
 use Rattle.text.specs.Writing.{digits, int_text}
 use Rattle.text.proofs.Digits.{digits_one, digits_more}
 use Rattle.text.proofs.Parts.{equal_true, equal_self, starts_front}

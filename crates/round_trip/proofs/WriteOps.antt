@@ -26,12 +26,12 @@ use Rattle.text.specs.Parts.{fields_of, equal, index_of}
 use Rattle.text.specs.Values.{value_of}
 use Rattle.text.specs.Writing.{each, digits}
 use Rattle.text.proofs.Parts.{equal_true, split_some}
-use Rattle.plan_line.specs.declared.Coded.{Coded}
+use Rattle.plan_line.specs.Ops.{Coded}
 use Rattle.plan_line.specs.Lines.{op_key, op_told, op_line}
 use Rattle.plan_line.specs.Ops.{bare, clause_kind, clause_words, coded_of, exact, with_joined, no_code, operand_of, operands_of, op_of, with_operand}
 use Rattle.plan_line.proofs.InRange.{apart, distinct, distinct_kinds, operands_clean, operands_number, operands_untouched}
 use Rattle.plan_line.proofs.Ranges.{ranged_kept, worse_none}
-use Rattle.plan.proofs.Kept.{answered_done}
+use Rattle.plan_line.proofs.Told.{answered_done}
 use Rattle.plan_writer.specs.Texts.{kind_text, operand_text, operands_text, op_row}
 use Rattle.round_trip.proofs.WriteLines.{joined, parts_written, key_cases}
 use Rattle.round_trip.proofs.WriteNumbers.{ranged_written, value_written}

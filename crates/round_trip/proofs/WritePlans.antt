@@ -20,10 +20,9 @@ use Rattle.rules.specs.Behaviours.{Instruction, instruction}
 use Rattle.rules.proofs.All.{both, parts}
 use Rattle.text.specs.Parts.{Lines, line_then, lines_of}
 use Rattle.text.specs.Writing.{each}
-use Rattle.plan_line.specs.declared.Start.{Start as ReadStart}
+use Rattle.plan_line.specs.Lines.{Start as ReadStart}
 use Rattle.plan_line.specs.Lines.{behaviours_key, code_key, starts_key, header, header_line, count_line, op_line, start_line}
-use Rattle.plan.specs.declared.Loaded.{Loaded}
-use Rattle.plan.specs.Plans.{Plan, before_first, last_from, more, start_more, code_lines, start_lines, plan_lines}
+use Rattle.plan.specs.Plans.{Loaded, Plan, before_first, last_from, more, start_more, code_lines, start_lines, plan_lines}
 use Rattle.plan.specs.Plans.{misplaced, node_of, refused_load, text_too_long, ill_placed, checked, loaded_from, load_of}
 use Rattle.plan.specs.Reading.{Left, Read, bad, good, on_line, times, end_of}
 use Rattle.plan.proofs.Kept.{PlanKept, then_good, line_good, times_good, count_read, end_good, plan_kept}

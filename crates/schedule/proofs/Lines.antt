@@ -1,54 +1,77 @@
 -- Laws of reading steps text: what one line is, and what is known of a text behind some of its lines. Assumes nothing.
+--   pack_first pack_second pack_done   a step's two numbers: the first or the second is refused, or both are read
 --   line_run line_arrive line_timeout line_other   the answers for one line
---   So                                the lines up to a place are steps, which are stored
+--   So                                the lines before the rest of a text are steps, which are stored
 --   so_room                           the steps are 4,096 entries
 --   so_none so_more                   at the start, and behind one line more
 --   so_unended so_malformed so_over so_all   the answers of `read`
-use mathlib.Core.Bool.{Bool, true, false}
+use mathlib.Core.Bool.{Bool, true, false, cond, and-false}
 use mathlib.Core.List.{List, [], ◌∷◌, ◌++◌, map, append_assoc}
-use mathlib.Core.Path.{◌≡◌, refl, sym, ap, ◌∙◌}
+use mathlib.Core.Path.{◌≡◌, refl, ap, ◌∙◌}
 use Prim.Native.Nat.{ℕ, zero, suc, ◌+◌, ◌-◌, ◌≤◌, ◌<◌}
-use Prim.Native.Char.{code}
 use native.Mathlib.Omega.{arith}
 use borrow.Author.Tests.{lt-ltb, le-ltb}
-use lib.ListN.{length, take, drop, set, replicate, length-append}
+use lib.Dec.{eqb}
+use lib.ListN.{length, take, drop, get_or, set, replicate, length-append}
+use Rattle.std.specs.Borrow.{Bor}
+use Rattle.std.specs.Prelude.{Option, Some, None, MatchOption}
 use Rattle.node.specs.Lists.{firsts}
 use Rattle.node.proofs.Lists.{firsts_length}
 use Rattle.rules.specs.Answers.{Answer, refused, done, schedule_too_long}
-use Rattle.text.specs.Parts.{Lines, line_then, lines_of, place_from, fields_of, starts_with}
-use Rattle.text.proofs.Parts.{drop_at, tail_part, lines_at, lines_rest, lines_none, starts_long}
-use Rattle.schedule.specs.declared.Schedule.{Schedule}
-use Rattle.schedule.specs.Reading.{malformed_line, own_of, arrival_of, run_key, arrive_key, timeout_key, step_of}
+use Rattle.text.specs.Numbers.{Ranged}
+use Rattle.text.specs.Parts.{Lines, line_then, lines_of, fields_of, starts_with}
+use Rattle.text.proofs.Ended.{Piece, ended, ended_line, unended_line}
+use Rattle.text.proofs.Parts.{drop_at, lines_none}
+use Rattle.schedule.specs.Reading.{Schedule, malformed_line, byte_told, packed_step, packed_of, own_of, arrival_of, run_key, arrive_key, timeout_key, step_of, line_of}
 use Rattle.schedule.specs.Reading.{read_lines, first_malformed, steps_of, refused_text, accepted_steps, of_lines, schedule_of}
 
+-- ---- the numbers of a line
+told_none : (x : Ranged) → None ≡ byte_told x → eqb x.refusal 0 ≡ false
+told_none x e = go (eqb x.refusal 0) e
+  where
+    go : (t : Bool) → None ≡ cond t (Some x.number) None → t ≡ false
+    go true e = let no : ⊥ = cc in absurd no
+    go false e = refl
+
+told_some : (x : Ranged) {n : ℕ} → Some n ≡ byte_told x → (eqb x.refusal 0 ≡ true) × (n ≡ x.number)
+told_some x {n} e = go (eqb x.refusal 0) e
+  where
+    go : (t : Bool) → Some n ≡ cond t (Some x.number) None → (t ≡ true) × (n ≡ x.number)
+    go true e = (refl, cc)
+    go false e = let no : ⊥ = cc in absurd no
+
+module _ (kind : ℕ) (i j : Ranged) where
+  pub pack_first : None ≡ byte_told i → refused malformed_line ≡ packed_of kind i j
+  unfolding packed_of
+  pack_first e = rw (told_none i e)
+
+  pub pack_second : None ≡ byte_told j → refused malformed_line ≡ packed_of kind i j
+  unfolding packed_of
+  pack_second e = rw (told_none j e, and-false (eqb i.refusal 0))
+
+  pub pack_done : {m n : ℕ} → Some m ≡ byte_told i → Some n ≡ byte_told j → done (packed_step kind m n) ≡ packed_of kind i j
+  unfolding packed_of
+  pack_done e f = let p = told_some i e in let q = told_some j f in rw (p.0, q.0, p.1, q.1)
+
 -- ---- one line
-module _ (line : List ℕ) {r : Bool} (h : r ≡ starts_with run_key line) where
-  pub line_run_long : r ≡ true → 4 ≤ length line
-  line_run_long e = starts_long run_key line (sym h ∙ e)
-
-  pub line_run : {x : Answer ℕ} → r ≡ true → x ≡ own_of 0 (take (length line - 4) (drop 4 line)) → x ≡ step_of line
+module _ (line : List ℕ) where
+  pub line_run : {x : Answer ℕ} → starts_with run_key line ≡ true → x ≡ own_of 0 (drop 4 line) → x ≡ step_of line
   unfolding step_of
-  line_run e q = rw (← h, e) (rw (tail_part line 4) at q)
+  line_run e q = rw e q
 
-  module _ (no : r ≡ false) {a : Bool} (g : a ≡ starts_with arrive_key line) where
-    pub line_arrive : {x : Answer ℕ} → a ≡ true → x ≡ arrival_of (fields_of (take (length line - 7) (drop 7 line))) → x ≡ step_of line
+  module _ (no : starts_with run_key line ≡ false) where
+    pub line_arrive : {x : Answer ℕ} → starts_with arrive_key line ≡ true → x ≡ arrival_of (fields_of (drop 7 line)) → x ≡ step_of line
     unfolding step_of
-    line_arrive e q = rw (← h, no, ← g, e) (rw (tail_part line 7) at q)
+    line_arrive e q = rw (no, e) q
 
-    module _ (other : a ≡ false) {b : Bool} (k : b ≡ starts_with timeout_key line) where
-      pub line_timeout : {x : Answer ℕ} → b ≡ true → x ≡ own_of 2 (take (length line - 8) (drop 8 line)) → x ≡ step_of line
+    module _ (other : starts_with arrive_key line ≡ false) where
+      pub line_timeout : {x : Answer ℕ} → starts_with timeout_key line ≡ true → x ≡ own_of 2 (drop 8 line) → x ≡ step_of line
       unfolding step_of
-      line_timeout e q = rw (← h, no, ← g, other, ← k, e) (rw (tail_part line 8) at q)
+      line_timeout e q = rw (no, other, e) q
 
-      pub line_other : b ≡ false → refused malformed_line ≡ step_of line
+      pub line_other : starts_with timeout_key line ≡ false → refused malformed_line ≡ step_of line
       unfolding step_of
-      line_other e = rw (← h, no, ← g, other, ← k, e)
-
-pub line_arrive_long : (line : List ℕ) {a : Bool} → a ≡ starts_with arrive_key line → a ≡ true → 7 ≤ length line
-line_arrive_long line g e = starts_long arrive_key line (sym g ∙ e)
-
-pub line_timeout_long : (line : List ℕ) {b : Bool} → b ≡ starts_with timeout_key line → b ≡ true → 8 ≤ length line
-line_timeout_long line g e = starts_long timeout_key line (sym g ∙ e)
+      line_other e = rw (no, other, e)
 
 -- ---- lines that are steps
 -- one step more is stored behind the others, as long as there is room
@@ -85,22 +108,24 @@ accepted : {steps : List ℕ} {count : ℕ} (l : List ℕ) → length l ≡ coun
 unfolding accepted_steps
 accepted l e f = cc
 
--- ---- a text up to a place
-pub record So (text : List ℕ) (steps : List ℕ) (count at : ℕ) : Type 0 where
-  -- the steps of the lines before the place
+-- ---- a text, of which `rest` is left
+pub record So (text : List ℕ) (steps : List ℕ) (count : ℕ) (rest : List ℕ) : Type 0 where
+  -- the steps of the lines before the rest
   pub earlier : List ℕ
   pub counted : length earlier ≡ count
   pub stored : steps ≡ firsts 0 4096 earlier
-  pub left : read_lines (lines_of text) ≡ map done earlier ++ read_lines (lines_of (drop at text))
+  pub left : read_lines (lines_of text) ≡ map done earlier ++ read_lines (lines_of rest)
+  -- each of them has its byte 10
+  pub few : count + length rest ≤ length text
 
-pub so_none : (text : List ℕ) → So text (replicate 4096 0) 0 0
-so_none text = record { earlier = []; counted = refl; stored = refl; left = refl }
+pub so_none : (text : List ℕ) → So text (replicate 4096 0) 0 text
+so_none text = record { earlier = []; counted = refl; stored = refl; left = refl; few = omega arith }
 
-module _ {text steps : List ℕ} {count at : ℕ} (so : So text steps count at) where
+module _ {text steps : List ℕ} {count : ℕ} {rest : List ℕ} (so : So text steps count rest) where
   pub so_room : length steps ≡ 4096
   so_room = ap length so.stored ∙ firsts_length 0 4096 so.earlier
 
-  behind : (ls : Lines) → lines_of (drop at text) ≡ ls → read_lines (lines_of text) ≡ map done so.earlier ++ read_lines ls
+  behind : (ls : Lines) → lines_of rest ≡ ls → read_lines (lines_of text) ≡ map done so.earlier ++ read_lines ls
   behind ls e = so.left ∙ ap (λ (x : Lines). map done so.earlier ++ read_lines x) e
 
   malformed_at : (ls : List (Answer ℕ)) {r : Schedule} → length text ≤ 61440 → read_lines (lines_of text) ≡ map done so.earlier ++ (refused malformed_line ∷ ls)
@@ -111,32 +136,51 @@ module _ {text steps : List ℕ} {count at : ℕ} (so : So text steps count at) 
       ap (first_malformed 1) e ∙ steps_malformed so.earlier 1 ls ∙ omega (arith, so.counted) in
       simp (le-ltb _ _ w, f, lt-ltb 0 (count + 1) (omega arith)) p
 
-  module _ {e : ℕ} (w : length text ≤ 61440) (a : at ≤ length text) (h : e ≡ place_from (code "\n") at text) where
-    pub so_unended : {r : Schedule} → at < length text → length text ≤ e → r ≡ refused_text malformed_line (count + 1) → r ≡ schedule_of text
+  -- the next line, with its byte 10 or without
+  module _ {line more : List ℕ} (piece : Piece rest line more) where
+    pub so_unended : {r : Schedule} → length text ≤ 61440 → ended piece ≡ false → r ≡ refused_text malformed_line (count + 1) → r ≡ schedule_of text
     unfolding read_lines
-    so_unended b l p =
-        malformed_at [] w (behind _ (lines_rest text a h l) ∙ rw (drop_at text at b)) p
+    so_unended w e p = let some : rest ≡ get_or rest 0 0 ∷ drop 1 rest = drop_at rest 0 piece.some in
+        malformed_at [] w (behind _ (unended_line piece e) ∙ rw some refl) p
 
-    module _ (l : e < length text) {x : Answer ℕ} (is : x ≡ step_of (take (e - at) (drop at text))) where
-      next : read_lines (lines_of text) ≡ map done so.earlier ++ (x ∷ read_lines (lines_of (drop (e + 1) text)))
+    module _ (e : ended piece ≡ true) {x : Answer ℕ} (is : x ≡ step_of (take (length line - 1) line)) where
+      next : read_lines (lines_of text) ≡ map done so.earlier ++ (x ∷ read_lines (lines_of more))
       unfolding read_lines line_then
-      next = behind _ (lines_at text a h l) ∙ rw (← is)
+      next = behind _ (ended_line piece e) ∙ rw (← is)
 
-      pub so_malformed : {r : Schedule} → x ≡ refused malformed_line → r ≡ refused_text malformed_line (count + 1) → r ≡ schedule_of text
-      so_malformed y p = malformed_at _ w (next ∙ ap (λ (z : Answer ℕ). map done so.earlier ++ (z ∷ read_lines (lines_of (drop (e + 1) text)))) y) p
+      pub so_malformed : {r : Schedule} → length text ≤ 61440 → x ≡ refused malformed_line → r ≡ refused_text malformed_line (count + 1) → r ≡ schedule_of text
+      so_malformed w y p = malformed_at _ w (next ∙ ap (λ (z : Answer ℕ). map done so.earlier ++ (z ∷ read_lines (lines_of more))) y) p
 
-      pub so_more : {s : ℕ} {steps' : List ℕ} → x ≡ done s → steps' ≡ set steps count s → So text steps' (count + 1) (e + 1)
+      pub so_more : {s : ℕ} {steps' : List ℕ} → x ≡ done s → steps' ≡ set steps count s → So text steps' (count + 1) more
       so_more {s} y p = record {
         earlier = so.earlier ++ (s ∷ []);
         counted = length-append so.earlier (s ∷ []) ∙ omega (arith, so.counted);
         stored = p ∙ rw (so.stored, ← so.counted) (firsts_more 4096 so.earlier s);
         left = next ∙ rw (y, map_more so.earlier s, append_assoc);
+        few = omega (arith, so.few, piece.size, piece.some, ap length piece.all, length-append line more);
       }
 
-  module _ (w : length text ≤ 61440) (end : length text ≤ at) where
+    -- the line without its byte 10, if it has one, and what is read of it
+    abbrev pub Cut : Option (Bor (List ℕ)) → Type 0
+    Cut o = MatchOption o (ended piece ≡ false) (λ x. (ended piece ≡ true) × (x.now ≡ take (length line - 1) line) × (length x.now + 1 ≡ length line))
+
+    abbrev pub Got : Option (Bor (List ℕ)) → Option ℕ → Type 0
+    Got o r = MatchOption o (r ≡ None) (λ x. line_of r ≡ step_of x.now)
+
+    pub so_refused : (o : Option (Bor (List ℕ))) {r : Option ℕ} {s : Schedule} → length text ≤ 61440 → Cut o → Got o r → r ≡ None
+        → s ≡ refused_text malformed_line (count + 1) → s ≡ schedule_of text
+    so_refused None w c g e p = so_unended w c p
+    so_refused (Some x) w c g e p = so_malformed c.0 (rw (e, c.1) at g) w refl p
+
+    pub so_step : (o : Option (Bor (List ℕ))) {r : Option ℕ} {s : ℕ} {steps' : List ℕ} → Cut o → Got o r → r ≡ Some s
+        → steps' ≡ set steps count s → So text steps' (count + 1) more
+    so_step None c g e p = let no : ⊥ = cc in absurd no
+    so_step (Some x) c g e p = so_more c.0 (rw (e, c.1) at g) refl p
+
+  module _ (w : length text ≤ 61440) (end : length rest ≡ 0) where
     all_steps : read_lines (lines_of text) ≡ map done so.earlier ++ []
     unfolding read_lines
-    all_steps = behind _ (lines_none text end)
+    all_steps = behind _ (lines_none {at = 0} rest (omega (arith, end)))
 
     pub so_over : {r : Schedule} → 4096 < count → r ≡ refused_text schedule_too_long 0 → r ≡ schedule_of text
     unfolding schedule_of of_lines

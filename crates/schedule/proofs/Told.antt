@@ -1,6 +1,7 @@
 -- What is told of a steps text: a number of at most 32, a line of at most 61,441, and at most 4,096 steps in an array of so many. Assumes nothing.
 --   Low s       so for an answer s
 --   read_told   so for every text
+--   refusal_told            the number of a refusal is not 0
 use mathlib.Core.Bool.{Bool, true, false, cond}
 use mathlib.Core.List.{List, [], ◌∷◌, map}
 use mathlib.Core.Path.{◌≡◌, refl}
@@ -13,8 +14,10 @@ use Rattle.node.proofs.Lists.{firsts_length}
 use Rattle.rules.specs.Answers.{Answer, refused, done, schedule_too_long}
 use Rattle.text.proofs.Parts.{lines_few}
 use Rattle.text.specs.Parts.{lines_of}
-use Rattle.schedule.specs.declared.Schedule.{Schedule}
-use Rattle.schedule.specs.Reading.{malformed_line, step_of, unended, read_lines, first_malformed, steps_of, refused_text, accepted_steps, of_lines, schedule_of}
+use Rattle.schedule.specs.declared.Refused.{Refused}
+use Rattle.schedule.specs.declared.Refused.TheVariants.{Malformed, TooLong}
+use Rattle.schedule.specs.Reading.{refusal_number}
+use Rattle.schedule.specs.Reading.{Schedule, malformed_line, step_of, unended, read_lines, first_malformed, steps_of, refused_text, accepted_steps, of_lines, schedule_of}
 
 pub record Low (s : Schedule) : Type 0 where
   pub number : s.number ≤ schedule_too_long
@@ -68,3 +71,7 @@ read_told text = go (ltb 61440 (length text)) refl
     go : (b : Bool) → ltb 61440 (length text) ≡ b → Low (cond b (refused_text schedule_too_long 0) (of_lines (read_lines (lines_of text))))
     go true h = refused_low schedule_too_long 0 (omega arith) (omega arith)
     go false h = lines_low (read_lines (lines_of text)) (omega (arith, lines_most text, ltb-false 61440 (length text) h))
+
+pub refusal_told : (e : Refused) → refusal_number e ≡ 0 → ⊥
+refusal_told (Malformed line) h = cc
+refusal_told TooLong h = cc

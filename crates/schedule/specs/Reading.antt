@@ -2,30 +2,36 @@
 -- `timeout=i`.
 --   malformed_line        document 01's number for a malformed line
 --   byte_of l             l read as a number of 0 to 255
+--   byte_told x           such a number as the code's answer: none where it is refused
+--   packed_step kind i j  the number of the step of a kind, 0 run, 1 arrive or 2 timeout, with its owner's and its sender's number
 --   packed_of kind i j    the number of the step of a kind, 0 run, 1 arrive or 2 timeout, where its owner's and its sender's number were read
 --   own_of kind l         what follows `run=` or `timeout=`: a number
 --   arrival_of fields     what follows `arrive=`: two fields
 --   step_of line          what a line is, without its byte 10: a step, or refused as malformed
---   line_of x             the answer that the code's `Line` stands for: 15, or the step
+--   line_of x             what the code's answer for a line stands for: refused under 15, or the step
 --   unended rest         what a last line without byte 10 is, whatever it holds
 --   read_lines ls         what each line of a text is
 --   first_malformed n ls  the number of the first malformed line, where the first line has number n; 0 where none is
 --   steps_of ls           the steps among lines
+--   Schedule              the answer for a text: the number told, 15, 32 or 0; the malformed line, from 1, or 0; how many steps there are,
+--                         none with a refusal; and their numbers, with 0 in the entries behind the last
 --   refused_text k line   the answer with refusal k: no steps
 --   accepted_steps steps  the answer without one
 --   of_lines ls           the answer for a text with these lines
 --   schedule_of text      the answer for a text
+--   refusal_number e refusal_line e   the number and the line that the code's refusal stands for
+--   schedule_told r       the answer that the code's result stands for
 use Rattle.std.specs.Prelude.{◌&&◌, cond, List, [], ◌∷◌, ◌++◌, map, ℕ, ◌+◌, eqb, ltb, length, get_or, drop, replicate}
+use Rattle.std.specs.Prelude.{Option, Some, None, Result, Ok, Err}
 use Rattle.actions.specs.Numbers.{encode}
 use Rattle.node.specs.Lists.{firsts}
 use Rattle.node.specs.Texts.{bytes}
 use Rattle.rules.specs.Answers.{Answer, refused, done, need, schedule_too_long}
-use Rattle.text.specs.declared.Ranged.{Ranged}
-use Rattle.text.specs.Numbers.{number_of, ranged_of}
+use Rattle.text.specs.Numbers.{number_of, Ranged, ranged_of}
 use Rattle.text.specs.Parts.{Lines, lines_of, fields_of, starts_with}
-use Rattle.schedule.specs.declared.Line.{Line}
-use Rattle.schedule.specs.declared.Line.TheVariants.{Malformed, Step}
-use Rattle.schedule.specs.declared.Schedule.{Schedule}
+use Rattle.schedule.specs.declared.Refused.{Refused}
+use Rattle.schedule.specs.declared.Refused.TheVariants.{Malformed, TooLong}
+use Rattle.schedule.specs.declared.accepted.Schedule.{Schedule as Accepted}
 
 abbrev pub malformed_line : ℕ
 malformed_line = 15
@@ -35,10 +41,16 @@ malformed_line = 15
 abbrev pub byte_of : List ℕ → Ranged
 byte_of l = ranged_of (number_of l) 0 255
 
+abbrev pub byte_told : Ranged → Option ℕ
+byte_told x = cond (eqb x.refusal 0) (Some x.number) None
+
+abbrev pub packed_step : ℕ → ℕ → ℕ → ℕ
+packed_step kind i j = encode (record { kind = kind; owner = record { 0 = i }; from = record { 0 = j } })
+
 unfoldable pub packed_of : ℕ → Ranged → Ranged → Answer ℕ
 packed_of kind i j =
     need (eqb i.refusal 0 && eqb j.refusal 0) malformed_line
-    (done (encode (record { kind = kind; owner = record { 0 = i.number }; from = record { 0 = j.number } })))
+    (done (packed_step kind i.number j.number))
 
 -- the sender of a run or a timeout is 0
 unfoldable pub own_of : ℕ → List ℕ → Answer ℕ
@@ -63,9 +75,9 @@ step_of line =
     (cond (starts_with timeout_key line) (own_of 2 (drop 8 line))
     (refused malformed_line)))
 
-abbrev pub line_of : Line → Answer ℕ
-line_of Malformed = refused malformed_line
-line_of (Step s) = done s
+abbrev pub line_of : Option ℕ → Answer ℕ
+line_of None = refused malformed_line
+line_of (Some s) = done s
 
 -- ---- the lines of a text
 
@@ -89,6 +101,12 @@ steps_of (done s ∷ ls) = s ∷ steps_of ls
 
 -- ---- the answer
 
+pub record Schedule : Type 0 where
+  pub number : ℕ
+  pub line : ℕ
+  pub count : ℕ
+  pub steps : List ℕ
+
 unfoldable pub refused_text : ℕ → ℕ → Schedule
 refused_text k line = record { number = k; line = line; count = 0; steps = replicate 4096 0 }
 
@@ -105,3 +123,17 @@ of_lines ls =
 -- "32 with line 0 for text above 61,440 bytes"
 unfoldable pub schedule_of : List ℕ → Schedule
 schedule_of text = cond (ltb 61440 (length text)) (refused_text schedule_too_long 0) (of_lines (read_lines (lines_of text)))
+
+-- ---- the code's result
+
+abbrev pub refusal_number : Refused → ℕ
+refusal_number (Malformed line) = malformed_line
+refusal_number TooLong = schedule_too_long
+
+abbrev pub refusal_line : Refused → ℕ
+refusal_line (Malformed line) = line
+refusal_line TooLong = 0
+
+abbrev pub schedule_told : Result Accepted Refused → Schedule
+schedule_told (Ok s) = record { number = 0; line = 0; count = s.count; steps = s.steps }
+schedule_told (Err e) = refused_text (refusal_number e) (refusal_line e)

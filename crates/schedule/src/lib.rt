@@ -3,11 +3,14 @@
 
 ghost use Rattle.std.specs.Prelude.{◌≡◌, set};
 ghost use Rattle.text.specs.Parts.{fields_of};
-ghost use Rattle.schedule.specs.Reading.{packed_of, own_of, arrival_of, step_of, line_of, refused_text, schedule_of};
+ghost use Rattle.schedule.specs.Reading.{byte_of, byte_told, packed_step, own_of, arrival_of, step_of, line_of};
+ghost use Rattle.schedule.specs.Reading.{refusal_number, refusal_line, schedule_told, schedule_of};
 
+mod accepted;
+
+pub use accepted::Schedule;
 use actions::encode;
-use node::{ProcessNumber, SCHEDULE_TOO_LONG, Step};
-use text::Ranged;
+use node::{ProcessNumber, Refusal, Step};
 
 // Text above this many bytes is refused.
 const LIMIT: usize = 61440;
@@ -15,137 +18,106 @@ const LIMIT: usize = 61440;
 // The most steps that a schedule has.
 const ROOM: usize = 4096;
 
-const MALFORMED: u8 = 15;
-
-// The number told, 15, 32 or 0; the malformed line, from 1, or 0; and the steps, of which there are none with a refusal. A step is
-// its number (`actions::encode`); the entries behind the last are 0.
-#[derive(Clone, Copy)]
-pub struct Schedule {
-    pub number: u8,
-    pub line: usize,
-    pub count: usize,
-    pub steps: [u32; 4096],
+// Why a text has no steps: its first malformed line, from 1, is told; or the text or the schedule is too long.
+#[derive(Clone, Copy, Debug, PartialEq, Eq)]
+pub enum Refused {
+    Malformed(usize),
+    TooLong,
 }
 
-// What one line is: 15, or a step (`line_of`).
-#[derive(Clone, Copy)]
-enum Line {
-    Malformed,
-    Step(u32),
+impl Refused {
+    // The number that the text's writer is told.
+    pub fn number(self) -> u8
+        ensures { result ≡ refusal_number self }
+    {
+        match self {
+            Refused::Malformed(_) => 15,
+            Refused::TooLong => Refusal::ScheduleTooLong.number(),
+        }
+    }
+
+    // The line that is told with it; 0 where the refusal is of no line.
+    pub fn line(self) -> usize
+        ensures { result ≡ refusal_line self }
+    {
+        match self {
+            Refused::Malformed(line) => line,
+            Refused::TooLong => 0,
+        }
+    }
 }
 
 // The steps of a text, or why it has none.
-pub fn read(text: &[u8]) -> Schedule
-    ensures { result ≡ schedule_of text.now }
+pub fn read(text: &[u8]) -> Result<Schedule, Refused>
+    ensures { schedule_told result ≡ schedule_of text.now }
 {
     if LIMIT < text.len() {
-        return refused(SCHEDULE_TOO_LONG, 0);
+        return Err(Refused::TooLong);
     }
     let mut steps = [0u32; 4096];
     let mut count = 0;
-    let mut at = 0;
-    while at < text.len() {
-        let e = text::find(text, at, b'\n');
-        if text.len() <= e {
-            return refused(MALFORMED, count + 1);
-        }
-        let line = read_line(&text[at..e]);
-        let Line::Step(step) = line else {
-            return refused(MALFORMED, count + 1);
+    for line in text.split_inclusive(|&b| b == b'\n') {
+        let Some(step) = line.strip_suffix(b"\n").and_then(read_line) else {
+            return Err(Refused::Malformed(count + 1));
         };
-        store(&mut steps, count, step);
+        if count < ROOM {
+            steps[count] = step;
+        }
         count += 1;
-        at = e + 1;
     }
     if ROOM < count {
-        return refused(SCHEDULE_TOO_LONG, 0);
+        return Err(Refused::TooLong);
     }
-    Schedule {
-        number: 0,
-        line: 0,
-        count,
-        steps,
-    }
+    Ok(Schedule { count, steps })
 }
 
-// A refusal gives no steps.
-fn refused(number: u8, line: usize) -> Schedule
-    ensures { result ≡ refused_text number line }
-{
-    Schedule {
-        number,
-        line,
-        count: 0,
-        steps: [0u32; 4096],
-    }
-}
-
-// A step behind the others, as long as there is room.
-fn store(steps: &mut [u32], count: usize, step: u32)
-    ensures { steps.new ≡ set steps.old count step }
-{
-    if count < steps.len() {
-        steps[count] = step;
-    }
-}
-
-// A line without its byte 10.
-fn read_line(line: &[u8]) -> Line
+// A line without its byte 10; none where it is malformed.
+fn read_line(line: &[u8]) -> Option<u32>
     ensures { line_of result ≡ step_of line.now }
 {
-    if text::starts(line, b"run=") {
-        return own(0, &line[4..]);
+    if let Some(rest) = line.strip_prefix(b"run=") {
+        return own(0, rest);
     }
-    if text::starts(line, b"arrive=") {
-        return arrival(&line[7..]);
+    if let Some(rest) = line.strip_prefix(b"arrive=") {
+        return arrival(rest);
     }
-    if text::starts(line, b"timeout=") {
-        return own(2, &line[8..]);
-    }
-    Line::Malformed
+    own(2, line.strip_prefix(b"timeout=")?)
 }
 
 // What follows `run=` or `timeout=`.
-fn own(kind: u8, rest: &[u8]) -> Line
+fn own(kind: u8, rest: &[u8]) -> Option<u32>
     ensures { line_of result ≡ own_of kind rest.now }
 {
-    let owner = text::read_ranged(rest, 0, 255);
-    packed(
-        kind,
-        owner,
-        Ranged {
-            refusal: 0,
-            number: 0,
-        },
-    )
+    let owner = number(rest)?;
+    Some(packed(kind, owner, 0))
 }
 
 // What follows `arrive=`.
-fn arrival(rest: &[u8]) -> Line
+fn arrival(rest: &[u8]) -> Option<u32>
     ensures { line_of result ≡ arrival_of (fields_of rest.now) }
 {
-    if text::count_fields(rest) == 2 {
-        let owner = text::read_ranged(text::field(rest, 0), 0, 255);
-        let from = text::read_ranged(text::field(rest, 1), 0, 255);
-        return packed(1, owner, from);
+    if text::count_fields(rest) != 2 {
+        return None;
     }
-    Line::Malformed
+    let owner = number(text::field(rest, 0))?;
+    let from = number(text::field(rest, 1))?;
+    Some(packed(1, owner, from))
+}
+
+// A process's number, as a line tells it: 0 to 255.
+fn number(s: &[u8]) -> Option<u8>
+    ensures { result ≡ byte_told (byte_of s.now) }
+{
+    text::read_ranged(s, 0, 255).ok()
 }
 
 // The step of a kind with two numbers that were read.
-fn packed(kind: u8, owner: Ranged, from: Ranged) -> Line
-    ensures { line_of result ≡ packed_of kind owner from }
+fn packed(kind: u8, owner: u8, from: u8) -> u32
+    ensures { result ≡ packed_step kind owner from }
 {
-    if owner.refusal != 0 {
-        return Line::Malformed;
-    }
-    if from.refusal != 0 {
-        return Line::Malformed;
-    }
-    let step = Step {
+    encode(Step {
         kind,
-        owner: ProcessNumber(owner.number),
-        from: ProcessNumber(from.number),
-    };
-    Line::Step(encode(step))
+        owner: ProcessNumber(owner),
+        from: ProcessNumber(from),
+    })
 }

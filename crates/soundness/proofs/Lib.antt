@@ -1,3 +1,2 @@
 pub mod Walk
 pub mod Parts
-pub mod Skips

@@ -1,21 +1,26 @@
 -- The laws that carry the walk and the loop. Assumes nothing.
+--   some_told none_is_told                  a refusal is told a number above 0, and where there is none 0 is told
 --   answer_refused answer_accepted          a step's answer, as code has it, makes of a play what the answer does
 --   ahead r l                               what play r comes to where l is left to play
 --   ahead_first ahead_more ahead_last       before the first step, one step further, and at the end
---   Walked ys g left r                      `left` of the steps ys are left, and what play r comes to behind the others is g
---   walked_first walked_more walked_last    the same of a walk over the steps
+--   Walked ys g k r                         k of the steps ys are behind play r, which comes to g with the others
+--   walked_first -more -refused -last       the same of a walk over the steps
 --   made_more made_all                      records stored for numbers: one more, and all of them
 use mathlib.Core.Bool.{Bool, true, false, cond, not}
 use mathlib.Core.List.{List, [], ◌∷◌, map}
 use mathlib.Core.Path.{◌≡◌, refl, sym, ◌∙◌, ap}
-use Prim.Native.Nat.{ℕ, ◌+◌, ◌-◌, ◌<◌, ◌≤◌}
+use Prim.Native.Nat.{ℕ, ◌+◌, ◌<◌, ◌≤◌}
 use native.Mathlib.Numerals.{add-one}
 use native.Mathlib.Omega.{arith}
 use borrow.Author.Tests.{eqb-true, ne_eqb}
 use lib.Dec.{eqb, ltb}
-use lib.ListN.{length, get_or, take, drop, set, length-map}
-use lib.Seq.{take-suc, take-suc-set, drop-cons, drop-length}
+use lib.ListN.{length, get_or, take, drop, set, length-map, drop_of_length-le}
+use lib.Seq.{take-suc, take-suc-set, drop-cons}
+use Rattle.std.specs.Prelude.{Option, Some, None, is_some}
 use Rattle.node.proofs.Lists.{map_append}
+use Rattle.node.proofs.Refusals.{above_zero}
+use Rattle.node.specs.Refusals.{refusal_told}
+use Rattle.node.specs.declared.Refusal.{Refusal}
 use Rattle.node.specs.declared.Node.{Node}
 use Rattle.node.specs.declared.Step.{Step}
 use Rattle.rules.specs.Answers.{Answer, refused, done, need}
@@ -24,8 +29,7 @@ use Rattle.rules.specs.Steps.{Action, Outcome, meaning, rule, step, plays_on, pl
 use Rattle.rules.proofs.Refusals.{rule_told}
 use Rattle.rules.proofs.Told.{Told, Ruled}
 use Rattle.actions.specs.Numbers.{decode, action_of}
-use Rattle.engine.specs.declared.Stepped.{Stepped}
-use Rattle.engine.specs.Answers.{stepped_by}
+use Rattle.engine.specs.Answers.{Stepped, stepped_by}
 use Rattle.engine.proofs.Laws.{behind}
 use Rattle.steps.specs.Walk.{begins, with_answer, goes_on}
 
@@ -45,6 +49,14 @@ step_numbered n a = go (sound n) (rule n a) (rule_told n a)
     go true (refused k) h = λ e. omega (arith, h.0, e)
     go true (done m) h = tt
     go false x h = λ e. omega (arith, e)
+
+pub some_told : (o : Option Refusal) → is_some o ≡ true → Numbered (refusal_told o)
+some_told None h = cc
+some_told (Some r) h = above_zero r
+
+pub none_is_told : (o : Option Refusal) → is_some o ≡ false → refusal_told o ≡ 0
+none_is_told None h = refl
+none_is_told (Some r) h = cc
 
 -- the record of a step's answer is what the answer makes of a play
 module _ (r : Outcome) (x : Answer Node) {s : Stepped} (its : s ≡ stepped_by r.node x) where
@@ -122,46 +134,28 @@ goes_on_counts r a = go (eqb r.refusal 0) (step r.node a)
     go true (done m) = omega arith
     go false x = omega arith
 
--- ---- a walk over the steps
+-- ---- a walk over the steps: k of the steps ys are behind play r, which comes to g with the others
 
 abbrev pub Walked : List Step → Outcome → ℕ → Outcome → Type 0
-Walked ys g left r = ahead r (map meaning (drop (length ys - left) ys)) ≡ g
+Walked ys g k r = ahead r (map meaning (drop k ys)) ≡ g
 
-pub walked_first : (n : Node) (ys : List Step) → Walked ys (play n (map meaning ys)) (length ys) (begins n (length ys))
-walked_first n ys =
-    let z : length ys - length ys ≡ 0 = omega arith in
-    let w : length (map meaning ys) ≡ length ys = length-map ys meaning in
-    rw z (rw w at (ahead_first n (map meaning ys)))
+pub walked_first : (n : Node) (ys : List Step) → Walked ys (play n (map meaning ys)) 0 (begins n (length ys))
+walked_first n ys = let w : length (map meaning ys) ≡ length ys = length-map ys meaning in rw w at (ahead_first n (map meaning ys))
 
 module _ (ys : List Step) {g : Outcome} where
-  -- the step behind the others was handed over
-  handed : (left : ℕ) (p : Outcome) → 0 < left → left ≤ length ys → Walked ys g left p → Walked ys g (left - 1) (goes_on p (meaning (get_or ys (length ys - left) no_step)))
-  handed left p some inside v =
-      let k = length ys - left in
-      let z : length ys - (left - 1) ≡ k + 1 = omega (arith, some, inside) in
-      let w : drop k ys ≡ get_or ys k no_step ∷ drop (k + 1) ys = drop-cons ys k no_step (omega (arith, some, inside)) ∙ rw add-one in
-      rw z (sym (ahead_more p (meaning (get_or ys k no_step)) (map meaning (drop (k + 1) ys))) ∙ (rw w at v))
+  pub walked_more : (k : ℕ) (p r : Outcome) → k < length ys → r ≡ goes_on p (meaning (get_or ys k no_step)) → Walked ys g k p → (r.accepted ≤ p.accepted + 1) × Walked ys g (k + 1) r
+  walked_more k p r inside e v =
+      let w : drop k ys ≡ get_or ys k no_step ∷ drop (k + 1) ys = drop-cons ys k no_step inside ∙ rw add-one in
+      let more : Walked ys g (k + 1) (goes_on p (meaning (get_or ys k no_step))) =
+      sym (ahead_more p (meaning (get_or ys k no_step)) (map meaning (drop (k + 1) ys))) ∙ (rw w at v) in
+      (rw e (goes_on_counts p (meaning (get_or ys k no_step))), rw e more)
 
-  -- all that is left is passed over once a step is refused
-  passed : (left : ℕ) (r : Outcome) → Walked ys g left r → eqb r.refusal 0 ≡ false → Walked ys g 0 r
-  passed left r v h = ahead_refused r (map meaning (drop (length ys - 0) ys)) h ∙ sym (ahead_refused r (map meaning (drop (length ys - left) ys)) h) ∙ v
+  -- a play that is refused is the whole play
+  pub walked_refused : (k : ℕ) (r : Outcome) → (r.refusal ≡ 0 → ⊥) → Walked ys g k r → r ≡ g
+  walked_refused k r h v = sym (ahead_refused r (map meaning (drop k ys)) (ne_eqb r.refusal 0 h)) ∙ v
 
-  pub walked_more : (left j : ℕ) (p r : Outcome) → 0 < left → left ≤ length ys → r ≡ goes_on p (meaning (get_or ys (length ys - left) no_step)) → j ≡ cond (eqb r.refusal 0) (left - 1) 0
-      → Walked ys g left p
-      → (j < left) × (r.accepted ≤ p.accepted + 1) × Walked ys g j r
-  walked_more left j p r some inside e f v =
-      let more : Walked ys g (left - 1) r = rw e (handed left p some inside v) in
-      let counts : r.accepted ≤ p.accepted + 1 = rw e (goes_on_counts p (meaning (get_or ys (length ys - left) no_step))) in
-      go (eqb r.refusal 0) refl more counts
-    where
-      go : (b : Bool) → eqb r.refusal 0 ≡ b → Walked ys g (left - 1) r → r.accepted ≤ p.accepted + 1 → (j < left) × (r.accepted ≤ p.accepted + 1) × Walked ys g j r
-      go true h more counts = let z : j ≡ left - 1 = f ∙ rw h in (omega (arith, z, some), counts, rw z more)
-      go false h more counts = let z : j ≡ 0 = f ∙ rw h in (omega (arith, z, some), counts, rw z (passed (left - 1) r more h))
-
-  pub walked_last : (left : ℕ) (r : Outcome) → left ≤ 0 → Walked ys g left r → r ≡ g
-  walked_last left r none v =
-      let z : length ys - left ≡ length ys = omega (arith, none) in
-      sym (ahead_last r) ∙ (rw (z, drop-length ys) at v)
+  pub walked_last : (k : ℕ) (r : Outcome) → length ys ≤ k → Walked ys g k r → r ≡ g
+  walked_last k r all v = sym (ahead_last r) ∙ (rw (drop_of_length-le ys {i = k} all) at v)
 
 -- ---- records made of numbers
 

@@ -1,16 +1,20 @@
--- Laws of the fields of a line: what a loop over fields knows at each turn. Assumes nothing.
---   fields_at fields_end fields_first   the fields from a place on
---   field_here field_next field_none    the turns of `field`
---   count_comma count_other count_end   the turns of `count_fields`
+-- Laws of the fields of a line. Assumes nothing.
+--   fields_at fields_end   the fields from a place on
+--   split_lem fields_lem   the parts and the fields, as the library's `split` gives them
+--   part_or                one of them, or the empty one
+use mathlib.Core.Bool.{Bool, true, false, cond}
 use mathlib.Core.List.{List, [], ◌∷◌}
-use mathlib.Core.Path.{◌≡◌}
-use Prim.Native.Nat.{ℕ, suc, ◌+◌, ◌-◌, ◌≤◌, ◌<◌}
+use mathlib.Core.Path.{◌≡◌, refl, ap}
+use Prim.Native.Nat.{ℕ, zero, suc, ◌+◌, ◌-◌, ◌≤◌, ◌<◌}
 use Prim.Native.Char.{code}
-use native.Mathlib.Omega.{arith}
-use borrow.Author.Tests.{eq-eqb, ne_eqb}
-use lib.ListN.{length, take, drop, get_or, drop_of_length-le}
+use lib.Dec.{eqb}
+use lib.ListN.{length, take, drop, get_or}
+use Rattle.std.specs.Borrow.{Bor}
+use Rattle.std.specs.List.{slice_split, onto_first}
+use Rattle.std.specs.Option.{option_map, unwrap_or}
+use Rattle.std.specs.Prelude.{Option, Some, None, slice_get}
 use Rattle.text.specs.Parts.{place_from, in_front, split, fields_of}
-use Rattle.text.proofs.Parts.{drop_at, split_some, split_at, split_end, split_first}
+use Rattle.text.proofs.Parts.{split_at, split_end}
 
 module _ (s : List ℕ) {at e : ℕ} (w : at ≤ length s) (h : e ≡ place_from (code ",") at s) where
   pub fields_at : e < length s → fields_of (drop at s) ≡ take (e - at) (drop at s) ∷ fields_of (drop (e + 1) s)
@@ -21,34 +25,26 @@ module _ (s : List ℕ) {at e : ℕ} (w : at ≤ length s) (h : e ≡ place_from
   unfolding fields_of
   fields_end l = split_end (code ",") s w h l
 
-  pub fields_first : (ps : List (List ℕ)) × (fields_of (drop at s) ≡ take (e - at) (drop at s) ∷ ps)
-  unfolding fields_of
-  fields_first = split_first (code ",") s w h
+-- ---- the parts, as the library's `split` gives them
+pub split_lem : (c : ℕ) (l : List ℕ) → slice_split (λ b. eqb b c) l ≡ split c l
+unfolding split in_front
+split_lem c [] = refl
+split_lem c (b ∷ l) = go (eqb b c) (slice_split (λ a. eqb a c) l) (split c l) (split_lem c l)
+  where
+    go : (t : Bool) (ps qs : List (List ℕ)) → ps ≡ qs → cond t ([] ∷ ps) (onto_first b ps) ≡ in_front t b qs
+    go true ps qs e = ap (λ (r : List (List ℕ)). [] ∷ r) e
+    go false [] qs e = rw (← e) refl
+    go false (p ∷ ps) qs e = rw (← e) refl
 
-  -- ---- field k, after n fields
-  module _ {k n : ℕ} {g : List ℕ} (i : get_or (fields_of (drop at s)) (k - n) [] ≡ g) where
-    pub field_here : k ≤ n → take (e - at) (drop at s) ≡ g
-    field_here l = let q = fields_first in let z : k - n ≡ 0 = omega arith in rw (q.1, z) at i
+pub fields_lem : (line : List ℕ) → slice_split (λ b. eqb b (code ",")) line ≡ fields_of line
+unfolding fields_of
+fields_lem line = split_lem (code ",") line
 
-    pub field_next : n < k → e < length s → get_or (fields_of (drop (e + 1) s)) (k - (n + 1)) [] ≡ g
-    field_next l m = let z : k - n ≡ suc (k - (n + 1)) = omega arith in rw (fields_at m, z) at i
-
-    pub field_none : n < k → length s ≤ e → [] ≡ g
-    field_none l m = let z : k - n ≡ suc (k - (n + 1)) = omega arith in rw (fields_end m, z) at i
-
--- ---- how many fields there are, by the commas before k
-module _ (s : List ℕ) (k n : ℕ) {g : ℕ} (i : n + length (fields_of (drop k s)) ≡ suc g) where
-  pub count_comma : k < length s → get_or s k 0 ≡ code "," → n + 1 + length (fields_of (drop (k + 1) s)) ≡ suc g
-  unfolding fields_of split in_front
-  count_comma h e = let z : length (split (code ",") (drop k s)) ≡ suc (length (split (code ",") (drop (k + 1) s))) = rw (drop_at s k h, eq-eqb _ _ e) in omega arith
-
-  pub count_other : k < length s → (get_or s k 0 ≡ code "," → ⊥) → n + length (fields_of (drop (k + 1) s)) ≡ suc g
-  unfolding fields_of split in_front
-  count_other h e =
-      let q = split_some (code ",") (drop (k + 1) s) in
-      let z : length (split (code ",") (drop k s)) ≡ length (split (code ",") (drop (k + 1) s)) = rw (drop_at s k h, ne_eqb _ _ e, q.2) in
-      omega arith
-
-  pub count_end : length s ≤ k → n ≡ g
-  unfolding fields_of split
-  count_end h = let z : length (split (code ",") (drop k s)) ≡ 1 = rw (drop_of_length-le s h) in omega arith
+-- the part of a number, or the empty one
+pub part_or : (ps : List (List ℕ)) (k : ℕ) (r : Option (Bor (List ℕ))) (d : Bor (List ℕ)) → option_map (λ x. x.now) r ≡ slice_get ps k → d.now ≡ []
+    → (unwrap_or r d).now ≡ get_or ps k []
+part_or [] k None d e h = h
+part_or [] k (Some x) d e h = let no : ⊥ = cc in absurd no
+part_or (p ∷ ps) zero None d e h = let no : ⊥ = cc in absurd no
+part_or (p ∷ ps) zero (Some x) d e h = cc
+part_or (p ∷ ps) (suc k) r d e h = part_or ps k r d e h

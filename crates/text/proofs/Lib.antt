@@ -7,3 +7,4 @@ pub mod Digits
 pub mod Stores
 pub mod Signs
 pub mod Examples
+pub mod Ended

@@ -2,24 +2,24 @@
 --   drop_next drop_at           a list and a text from a place on;  tail_part  a slice with no end
 --   place_after place_inside    where `find` answers
 --   before_hit before_miss      how many bytes stand before the next c, by the byte at a place
---   place_hit place_miss place_none   the turns of `find`;  place_near place_skip  those of `line_end`
---   split_at split_end split_first    the parts from a place on, up to the next byte c and behind it
+--   place_hit place_miss place_none   the turns of `find`
+--   split_at split_end           the parts from a place on, up to the next byte c and behind it
 --   lines_at lines_rest lines_none    the lines from a place on: a line and those behind it, a line without byte 10, nothing
 --   lines_few                   a text has no more whole lines than bytes
 --   equal_true equal_self       `equal` is equality
---   starts_front starts_long    what `starts_with` says of a text
-use mathlib.Core.Bool.{Bool, true, false, ◌&&◌, cond}
+--   equal_lem strip_lem         `equal` and `starts_with`, as the library's `==` and `strip_prefix` test them
+--   starts_front                what `starts_with` says of a text
+use mathlib.Core.Bool.{Bool, true, false, ◌&&◌, cond, false≢true}
 use mathlib.Core.List.{List, [], ◌∷◌}
-use mathlib.Core.Logic.{⊎_elim}
 use mathlib.Core.Path.{◌≡◌, refl, sym, ap, ◌∙◌}
-use Prim.Native.Nat.{ℕ, zero, suc, ◌+◌, ◌-◌, ◌≤◌, ◌<◌, min}
+use Prim.Native.Nat.{ℕ, suc, ◌+◌, ◌-◌, ◌≤◌, ◌<◌}
 use Prim.Native.Char.{code}
-use native.Mathlib.Nat.{eq-or-lt_of_le}
 use native.Mathlib.Numerals.{add-one}
 use native.Mathlib.Omega.{arith}
 use borrow.Author.Tests.{eq-eqb, ne_eqb, eqb-true}
 use lib.Dec.{eqb}
-use lib.ListN.{length, take, drop, get_or, length-take, length-drop, drop_of_length-le}
+use lib.Pointwise.{pointwise}
+use lib.ListN.{length, take, drop, get_or, length-drop, drop_of_length-le}
 use lib.Seq.{drop-cons, drop-drop, take_all}
 use Rattle.text.specs.Parts.{before, place_from, in_front, split, line_then, last_apart, lines_of, equal, starts_with}
 
@@ -62,18 +62,6 @@ module _ (c : ℕ) (s : List ℕ) (k : ℕ) (h : k < length s) where
   unfolding before
   before_miss q e = rw (drop_at s k h, ne_eqb _ _ e, q)
 
--- the first n bytes, none of which is c
-before_skip : (c : ℕ) (l : List ℕ) (n : ℕ) → n ≤ before c l → before c l ≡ n + before c (drop n l)
-unfolding before
-before_skip c l zero h = omega arith
-before_skip c [] (suc n) h = let no : ⊥ = omega arith in absurd no
-before_skip c (b ∷ l) (suc n) h = go (eqb b c) h (before_skip c l n)
-  where
-    go : (t : Bool) → suc n ≤ cond t 0 (suc (before c l)) → (n ≤ before c l → before c l ≡ n + before c (drop n l))
-        → cond t 0 (suc (before c l)) ≡ suc n + before c (drop n l)
-    go true h ih = let no : ⊥ = omega arith in absurd no
-    go false h ih = omega (arith, ih (omega arith))
-
 module _ (c n : ℕ) (s : List ℕ) (k : ℕ) (i : k + before c (drop k s) ≡ n + before c (drop n s)) where
   pub place_hit : k < length s → get_or s k 0 ≡ c → k ≡ place_from c n s
   unfolding place_from
@@ -81,18 +69,6 @@ module _ (c n : ℕ) (s : List ℕ) (k : ℕ) (i : k + before c (drop k s) ≡ n
 
   pub place_miss : k < length s → (get_or s k 0 ≡ c → ⊥) → k + 1 + before c (drop (k + 1) s) ≡ n + before c (drop n s)
   place_miss h e = omega (arith, i, before_miss c s k h {j = k + 1} refl e)
-
-  -- j bytes from k on that are not c, and the byte behind them
-  module _ {j m : ℕ} (q : m ≡ min (before c (drop k s)) j) where
-    pub place_near : k < length s → m < j → k + m ≡ place_from c n s
-    unfolding place_from
-    place_near h l = omega (arith, i, q, before_within c (drop k s), length-drop k s)
-
-    pub place_skip : j ≤ m → k + j + before c (drop (k + j) s) ≡ n + before c (drop n s)
-    place_skip l =
-        let skip : before c (drop k s) ≡ j + before c (drop j (drop k s)) = before_skip c (drop k s) j (omega (arith, q)) in
-        let same : before c (drop j (drop k s)) ≡ before c (drop (k + j) s) = ap (before c) (drop-drop j k s) in
-        omega (arith, i, skip, same)
 
   pub place_none : length s ≤ k → length s ≡ place_from c n s
   unfolding place_from before
@@ -159,12 +135,6 @@ module _ (c : ℕ) (s : List ℕ) {at e : ℕ} (w : at ≤ length s) (h : e ≡ 
   pub rest_part : length s ≤ e → take (e - at) (drop at s) ≡ drop at s
   rest_part l = take_all (e - at) (drop at s) (omega (arith, length-drop at s))
 
-  -- the first part stands before e, whether or not there is a c
-  pub split_first : (ps : List (List ℕ)) × (split c (drop at s) ≡ take (e - at) (drop at s) ∷ ps)
-  split_first =
-      ⊎_elim (λ all. ([], split_end (omega arith) ∙ ap (λ (p : List ℕ). p ∷ []) (sym (rest_part (omega arith)))))
-      (λ more. (split c (drop (e + 1) s), split_at more)) (eq-or-lt_of_le place_inside)
-
 module _ (s : List ℕ) {at e : ℕ} (w : at ≤ length s) (h : e ≡ place_from (code "\n") at s) where
   pub lines_at : e < length s → lines_of (drop at s) ≡ line_then (take (e - at) (drop at s)) (lines_of (drop (e + 1) s))
   unfolding lines_of last_apart
@@ -201,17 +171,6 @@ lines_few s =
     rw q.2 (omega (arith, apart_few q.0 q.1, split_few (code "\n") s))
 
 -- ---- words
-pub equal_lengths : (k l : List ℕ) → (length k ≡ length l → ⊥) → equal k l ≡ false
-unfolding equal
-equal_lengths [] [] h = absurd (h refl)
-equal_lengths [] (b ∷ l) h = refl
-equal_lengths (a ∷ k) [] h = refl
-equal_lengths (a ∷ k) (b ∷ l) h = inner (eqb a b) (equal_lengths k l (λ e. h (ap suc e)))
-  where
-    inner : (t : Bool) → equal k l ≡ false → (t && equal k l) ≡ false
-    inner true e = e
-    inner false e = refl
-
 pub equal_true : (k l : List ℕ) → equal k l ≡ true → k ≡ l
 unfolding equal
 equal_true [] [] e = refl
@@ -228,28 +187,32 @@ unfolding equal
 equal_self [] = refl
 equal_self (b ∷ l) = rw (eq-eqb b b refl) (equal_self l)
 
-module _ (k l : List ℕ) (i : ℕ) {g : Bool} (p : equal (drop i k) (drop i l) ≡ g) where
-  pub equal_differ : i < length k → i < length l → (get_or k i 0 ≡ get_or l i 0 → ⊥) → false ≡ g
-  unfolding equal
-  equal_differ h m e = rw (drop_at k i h, drop_at l i m, ne_eqb _ _ e) at p
+eqb_turned : (a b : ℕ) → eqb a b ≡ eqb b a
+eqb_turned a b = go (eqb a b) refl
+  where
+    go : (t : Bool) → eqb a b ≡ t → t ≡ eqb b a
+    go true e = sym (eq-eqb b a (sym (eqb-true a b e)))
+    go false e = sym (ne_eqb b a (λ q. false≢true (sym e ∙ eq-eqb a b (sym q))))
 
-  pub equal_more : i < length k → i < length l → get_or k i 0 ≡ get_or l i 0 → equal (drop (i + 1) k) (drop (i + 1) l) ≡ g
-  unfolding equal
-  equal_more h m e = rw (drop_at k i h, drop_at l i m, eq-eqb _ _ e) at p
+-- the library's `==` of two texts, and what its `strip_prefix` tests
+pub equal_lem : (k l : List ℕ) → pointwise eqb k l ≡ equal k l
+unfolding equal
+equal_lem [] [] = refl
+equal_lem [] (b ∷ l) = refl
+equal_lem (a ∷ k) [] = refl
+equal_lem (a ∷ k) (b ∷ l) = ap (λ (t : Bool). eqb a b && t) (equal_lem k l)
 
-  pub equal_end : length k ≤ i → length l ≤ i → true ≡ g
-  unfolding equal
-  equal_end h m = rw (drop_of_length-le k h, drop_of_length-le l m) at p
-
-pub starts_short : (k l : List ℕ) → length l < length k → starts_with k l ≡ false
+pub strip_lem : (k l : List ℕ) → pointwise eqb (take (length k) l) k ≡ starts_with k l
 unfolding starts_with
-starts_short k l h = equal_lengths k (take (length k) l) (λ e. omega (arith, length-take (length k) l))
+strip_lem k l = turned (take (length k) l) k ∙ equal_lem k (take (length k) l)
+  where
+    turned : (j i : List ℕ) → pointwise eqb j i ≡ pointwise eqb i j
+    turned [] [] = refl
+    turned [] (b ∷ i) = refl
+    turned (a ∷ j) [] = refl
+    turned (a ∷ j) (b ∷ i) = rw (turned j i) (ap (λ (t : Bool). t && pointwise eqb i j) (eqb_turned a b))
 
-module _ (k l : List ℕ) (h : starts_with k l ≡ true) where
-  -- what a text starts with
-  pub starts_front : take (length k) l ≡ k
-  unfolding starts_with
-  starts_front = sym (equal_true k (take (length k) l) h)
-
-  pub starts_long : length k ≤ length l
-  starts_long = omega (arith, ap length starts_front, length-take (length k) l)
+-- what a text starts with
+pub starts_front : (k l : List ℕ) → starts_with k l ≡ true → take (length k) l ≡ k
+unfolding starts_with
+starts_front k l h = sym (equal_true k (take (length k) l) h)

@@ -1,58 +1,83 @@
--- Texts that have room, stored byte by byte: bytes from the first on, and the digits of a number from the last on. Assumes nothing.
---   left_first left_stored   the start and a turn of the loop over the bytes of a text
+-- Bytes stored at once, and the digits of a number from the last on. Assumes nothing.
+--   stored             a text that has room, stored at once;  stored_part stored_none  one that has room in part, and none
 --   Front              what the loop over digits still has to store: those in front of the last ones
---   front_all          at its start;  front_more  at each turn;  front_end  behind it, with the first digit
---   front_wide         a number with more than one digit has some in front of the last
-use mathlib.Core.List.{List, [], ◌∷◌}
+--   front_all          at its start;  front_more  at each turn;  front_few front_end  behind it, with the first digit
+use mathlib.Core.List.{List, [], ◌∷◌, ◌++◌, append_assoc, append-nil}
 use mathlib.Core.Path.{◌≡◌, refl, sym, ap, ◌∙◌}
-use Prim.Native.Nat.{ℕ, suc, ◌+◌, ◌-◌, ◌/◌, ◌%◌, ◌≤◌, ◌<◌}
+use mathlib.Core.Logic.{⊎_elim}
+use Prim.Native.Nat.{ℕ, suc, ◌+◌, ◌-◌, ◌/◌, ◌%◌, ◌≤◌, ◌<◌, min}
 use Prim.Native.Char.{code}
-use native.Mathlib.Nat.{add-zero}
+use Rattle.std.proofs.lemmas.Bool.{cases_lt}
+use native.Mathlib.Nat.{zero-add}
 use native.Mathlib.Omega.{arith}
-use lib.ListN.{length, set, drop, get_or, length-append, length-set}
-use lib.Seq.{sets, set_comm}
+use borrow.Rule.Slice.PartMut.{put_mid}
+use lib.ListN.{length, set, take, drop, length-append, length-set, take-append-drop, drop_of_length-le}
+use lib.Seq.{sets, length-sets, sets-eq, set_comm, drop-drop, length-take-le}
 use Rattle.text.specs.Writing.{top, Wrote, digits}
-use Rattle.text.proofs.Digits.{digits_one, digits_more}
-use Rattle.text.proofs.Writing.{Left, left_all, left_byte, sets_append}
+use Rattle.text.proofs.Digits.{digits_one, digits_more, digits_some}
+use Rattle.text.proofs.Writing.{sets_append, sets_out}
 
-pub left_first : (o : List ℕ) (at : ℕ) (s : List ℕ) → length o ≤ top → at ≤ top → Left o at s o (at + 0) s
-left_first o at s h w = rw (add-zero at) (left_all o at s h w)
+module _ (o s : List ℕ) (at : ℕ) (w : length o ≤ top) {r : ℕ} (p : r ≡ min (at + length s) top) where
+  part_stored : {k : ℕ} (t : List ℕ) → k ≡ length t → at + length t ≤ length o → put_mid at k o t ≡ sets o at t
+  part_stored t same h =
+      ap (λ (j : ℕ). put_mid at j o t) same ∙ ap (λ (l : List ℕ). take at o ++ (t ++ l)) (drop-drop (length t) at o)
+      ∙ sym (append_assoc (take at o) t _) ∙ sym (sets-eq t o at h)
 
-pub left_stored : (s : List ℕ) (k at : ℕ) {o text m : List ℕ} {a : ℕ} → Left o a text m (at + k) (drop k s) → k < length s → at + k < length m
-    → Left o a text (set m (at + k) (get_or s k 0)) (at + (k + 1)) (drop (k + 1) s)
-left_stored s k at {m = m} p h w =
-    left_byte s k p h (record { bytes = refl; place = omega (arith, p.same, p.short); short = omega (arith, p.same, p.short) })
+  pub stored : {k : ℕ} {y : List ℕ} → at + length s ≤ length o → k ≡ length s → y ≡ s → Wrote o at s (put_mid at k o y) r
+  stored h same e = record { bytes = rw e (part_stored s same h); place = p; short = w }
+
+  -- what is behind the end is lost
+  pub stored_part : {k n : ℕ} {y : List ℕ} → at + n ≡ length o → n ≤ length s → k ≡ n → y ≡ take n s → Wrote o at s (put_mid at k o y) r
+  stored_part {k} {n} {y} h few same e =
+      let many : length (take n s) ≡ n = length-take-le n s few in record {
+        bytes =
+            rw e (part_stored (take n s) (omega arith) (omega arith))
+            ∙ sym (sets_out (sets o at (take n s)) (at + length (take n s)) (drop n s) (omega (arith, length-sets o at (take n s))))
+            ∙ sym (sets_append o at (take n s) (drop n s)) ∙ ap (sets o at) (take-append-drop n s);
+        place = p;
+        short = w;
+      }
+
+  pub stored_none : length o ≤ at → Wrote o at s o r
+  stored_none h = record { bytes = sym (sets_out o at s h); place = p; short = w }
 
 -- a store behind a text
 sets_behind : (l : List ℕ) (i : ℕ) (s : List ℕ) (j a : ℕ) → i + length s ≤ j → sets (set l j a) i s ≡ set (sets l i s) j a
 sets_behind l i [] j a h = refl
 sets_behind l i (b ∷ s) j a h = ap (λ (r : List ℕ). sets r (suc i) s) (set_comm l j i a b (λ e. omega arith)) ∙ sets_behind (set l i b) (suc i) s j a (omega arith)
 
--- the k digits of m, stored into `now` at place `at`, give those of n, stored into `old` there
-pub record Front (old : List ℕ) (at n : ℕ) (now : List ℕ) (k m : ℕ) : Type 0 where
-  pub bytes : sets now at (digits m) ≡ sets old at (digits n)
+-- the k digits of m, stored into `now` from its start on, give those of n, stored into `old` so
+pub record Front (old : List ℕ) (n : ℕ) (now : List ℕ) (k m : ℕ) : Type 0 where
+  pub bytes : sets now 0 (digits m) ≡ sets old 0 (digits n)
   pub width : k ≡ length (digits m)
-  pub few : k ≤ length (digits n)
   pub same : length now ≡ length old
 
-pub front_all : (o : List ℕ) (at n k : ℕ) → k ≡ length (digits n) → Front o at n o k n
-front_all o at n k w = record { bytes = refl; width = w; few = omega arith; same = refl }
+pub front_all : (o : List ℕ) (n : ℕ) → length o ≡ length (digits n) → Front o n o (length o) n
+front_all o n w = record { bytes = refl; width = w; same = refl }
 
-module _ {o : List ℕ} {at n : ℕ} {l : List ℕ} {k m : ℕ} (p : Front o at n l k m) where
-  pub front_wide : 10 ≤ m → k ≡ length (digits (m / 10)) + 1
+module _ {o : List ℕ} {n : ℕ} {l : List ℕ} {k m : ℕ} (p : Front o n l k m) where
+  front_wide : 10 ≤ m → k ≡ length (digits (m / 10)) + 1
   front_wide h = p.width ∙ ap length (digits_more m h) ∙ length-append (digits (m / 10)) ((code "0" + m % 10) ∷ [])
 
-  pub front_more : 10 ≤ m → Front o at n (set l (at + (k - 1)) (code "0" + m % 10)) (k - 1) (m / 10)
-  front_more h =
+  front_many : 1 < k → 10 ≤ m
+  front_many h = ⊎_elim (λ few. let one = ap length (digits_one m few) in absurd (omega (arith, p.width))) (λ many. many) (cases_lt m 10)
+
+  pub front_few : k ≤ 1 → m < 10
+  front_few h = ⊎_elim (λ few. few) (λ many. absurd (omega (arith, front_wide many, digits_some (m / 10)))) (cases_lt m 10)
+
+  pub front_more : 1 < k → Front o n (set l (k - 1) (code "0" + m % 10)) (k - 1) (m / 10)
+  front_more long =
+      let h = front_many long in
       let is : k - 1 ≡ length (digits (m / 10)) = omega (arith, front_wide h) in record {
         bytes =
-            sets_behind l at (digits (m / 10)) (at + (k - 1)) (code "0" + m % 10) (omega (arith, is))
-            ∙ ap (λ (j : ℕ). set (sets l at (digits (m / 10))) (at + j) (code "0" + m % 10)) is
-            ∙ sym (sets_append l at (digits (m / 10)) ((code "0" + m % 10) ∷ [])) ∙ ap (sets l at) (sym (digits_more m h)) ∙ p.bytes;
+            sets_behind l 0 (digits (m / 10)) (k - 1) (code "0" + m % 10) (omega (arith, is))
+            ∙ ap (λ (j : ℕ). set (sets l 0 (digits (m / 10))) j (code "0" + m % 10)) (is ∙ sym (zero-add (length (digits (m / 10)))))
+            ∙ sym (sets_append l 0 (digits (m / 10)) ((code "0" + m % 10) ∷ [])) ∙ ap (sets l 0) (sym (digits_more m h)) ∙ p.bytes;
         width = is;
-        few = omega (arith, p.few);
-        same = length-set l (at + (k - 1)) (code "0" + m % 10) ∙ p.same;
+        same = length-set l (k - 1) (code "0" + m % 10) ∙ p.same;
       }
 
-  pub front_end : (w : ℕ) → m < 10 → w ≡ length (digits n) → at + w ≤ length o → length o ≤ top → Wrote o at (digits n) (set l at (code "0" + m)) (at + w)
-  front_end w h wide room short = record { bytes = ap (sets l at) (sym (digits_one m h)) ∙ p.bytes; place = omega (arith, wide); short = short }
+  pub front_end : k ≤ 1 → length o ≡ length (digits n) → set l 0 (code "0" + m) ≡ digits n
+  front_end few w =
+      ap (sets l 0) (sym (digits_one m (front_few few))) ∙ p.bytes ∙ sets-eq (digits n) o 0 (omega arith)
+      ∙ rw (drop_of_length-le o {i = 0 + length (digits n)} (omega arith)) (append-nil (digits n))

@@ -6,7 +6,6 @@
 --   counted_short counted_fits counted_length   what the place behind a text says of its length
 --   Left              what a loop still has to write; left_all at its start, left_behind where it starts behind a text, left_more at each
 --                     turn, left_none at its end
---   left_byte left_bytes_end     the same for a loop over the bytes of a text
 --   left_item left_end           the same for a loop over the elements of a list;  left_skip  an element without text
 --   each_append each_map         the texts of two lists, one behind the other; those of made elements
 use mathlib.Core.List.{List, [], ◌∷◌, ◌++◌, append_assoc, map}
@@ -18,7 +17,7 @@ use native.Mathlib.Omega.{arith}
 use lib.ListN.{length, set, drop, get_or, length-append, length-set, drop_of_length-le}
 use lib.Seq.{sets, length-sets, set_out, sets-eq}
 use Rattle.text.specs.Writing.{top, Wrote, each}
-use Rattle.text.proofs.Parts.{drop_next, drop_at}
+use Rattle.text.proofs.Parts.{drop_next}
 
 pub sets_append : (l : List ℕ) (i : ℕ) (s t : List ℕ) → sets l i (s ++ t) ≡ sets (sets l i s) (i + length s) t
 sets_append l i [] t = ap (λ (k : ℕ). sets l k t) (sym (add-zero i))
@@ -100,14 +99,6 @@ left_none {o} {text} {m} {a} {e} p = record { bytes = p.bytes; place = omega (ar
 
 pub wrote_none : (o : List ℕ) (a : ℕ) → length o ≤ top → a ≤ top → Wrote o a [] o a
 wrote_none o a h w = left_none (left_all o a [] h w)
-
--- ---- a loop that writes the bytes of a text, one at a turn
-module _ (s : List ℕ) (k : ℕ) {o text m : List ℕ} {a e : ℕ} (p : Left o a text m e (drop k s)) where
-  pub left_byte : {n : List ℕ} {r : ℕ} → k < length s → Wrote m e (get_or s k 0 ∷ []) n r → Left o a text n r (drop (k + 1) s)
-  left_byte h q = left_more (rw (drop_at s k h) at p) q
-
-  pub left_bytes_end : length s ≤ k → Wrote o a text m e
-  left_bytes_end h = left_none (rw (drop_of_length-le s h) at p)
 
 -- ---- a loop that writes the texts of the elements of a list, one at a turn
 module _ {X : Type 0} (f : X → List ℕ) (xs : List X) (k : ℕ) {o text m : List ℕ} {a e : ℕ} (p : Left o a text m e (each f (drop k xs))) where

@@ -2,3 +2,4 @@ pub mod Parts
 pub mod Numbers
 pub mod Values
 pub mod Writing
+pub mod Results

@@ -9,21 +9,17 @@
 --   decimal n l            the value of the digits of n and then those of l
 --   number_value l          the value of l without its sign, at any length
 --   ceiling                past every range; a value that is read is held here
---   no_natural              told in place of a value where a text is no number: past the ceiling
 --   natural_of form l       the value of l, held, where it has the form that is asked for
 --   Signed                 a number as it is read: whether it has a minus, and its value
 --   number_of l             what is read: refused as malformed, or the number with its value held
---   signed_of n             the answer that the code's `Number` stands for: 11, or the sign and the value
+--   Ranged                  what is read with a range: the refusal, 11 or 12, and the number 0, or the refusal 0 and the number
 --   no_number refusal       what is read with a range where it is refused
 --   ranged_of n low high    what is read with a range: n, which can't be negative, has to be within low to high
-use Rattle.std.specs.Prelude.{Bool, true, false, ◌&&◌, not, cond, List, [], ◌∷◌, ℕ, ◌+◌, ◌*◌, ◌-◌, min, eqb, leb, drop}
+use Rattle.std.specs.Prelude.{Bool, false, ◌&&◌, not, cond, List, [], ◌∷◌, ℕ, ◌+◌, ◌*◌, ◌-◌, min, eqb, leb, drop, Option, Some, None}
 use Prim.Native.Char.{code}
 use Rattle.node.specs.Lists.{all_of}
 use Rattle.node.specs.Texts.{bytes}
 use Rattle.rules.specs.Answers.{Answer, refused, done, need}
-use Rattle.text.specs.declared.Number.TheVariants as number
-use Rattle.text.specs.declared.Number.{Number}
-use Rattle.text.specs.declared.Ranged.{Ranged}
 use Rattle.text.specs.Parts.{equal, starts_with}
 
 -- "11 wrong key, word, operand count, number form, missing or surplus line; 12 number out of range"
@@ -62,11 +58,8 @@ number_value l = decimal 0 (unsigned l)
 abbrev pub ceiling : ℕ
 ceiling = 4294967296
 
-abbrev pub no_natural : ℕ
-no_natural = 4294967297
-
-abbrev pub natural_of : Bool → List ℕ → ℕ
-natural_of form l = cond form (min (decimal 0 l) ceiling) no_natural
+abbrev pub natural_of : Bool → List ℕ → Option ℕ
+natural_of form l = cond form (Some (min (decimal 0 l) ceiling)) None
 
 pub record Signed : Type 0 where
   pub minus : Bool
@@ -75,10 +68,9 @@ pub record Signed : Type 0 where
 unfoldable pub number_of : List ℕ → Answer Signed
 number_of l = need (number_form l) malformed (done (record { minus = negative l; value = min (number_value l) ceiling }))
 
-abbrev pub signed_of : Number → Answer Signed
-signed_of number.Malformed = refused malformed
-signed_of (number.Plus n) = done (record { minus = false; value = n })
-signed_of (number.Minus n) = done (record { minus = true; value = n })
+pub record Ranged : Type 0 where
+  pub refusal : ℕ
+  pub number : ℕ
 
 abbrev pub no_number : ℕ → Ranged
 no_number refusal = record { refusal = refusal; number = 0 }

@@ -1,4 +1,5 @@
 -- Values as text (document 01: "an integer `i` (-2147483648 to 2147483647), an atom `a` (0 to 255) or a process number `p` (1 to 16)").
+--   Parsed                what is read of a value: the refusal, 11 or 12, and a value of number 0, or the refusal 0 and the value
 --   no_value refusal      what is read where it is refused
 --   read_as v           what is read where it is v
 --   plus_of n minus_of n   the integers n and -n, where they are within their limits
@@ -15,10 +16,12 @@ use Rattle.node.specs.Values.{int_zero, pid}
 use Rattle.node.specs.declared.Value.TheVariants.{Int, Atom, Pid}
 use Rattle.node.specs.declared.Value.{Value}
 use Rattle.rules.specs.Answers.{Answer, refused, done}
-use Rattle.text.specs.declared.Parsed.{Parsed}
-use Rattle.text.specs.declared.Ranged.{Ranged}
-use Rattle.text.specs.Numbers.{malformed, out_of_range, Signed, number_of, ranged_of}
+use Rattle.text.specs.Numbers.{malformed, out_of_range, Signed, number_of, Ranged, ranged_of}
 use Rattle.text.specs.Writing.{digits, int_text}
+
+pub record Parsed : Type 0 where
+  pub refusal : ℕ
+  pub value : Value
 
 abbrev pub no_value : ℕ → Parsed
 no_value refusal = record { refusal = refusal; value = int_zero }

@@ -6,8 +6,8 @@
 --   cell_next c e      what the cell holds in which a signal is sent
 --   slot_next s e      what the slot holds in which a message joins
 use mathlib.Core.Bool.{cond}
-use Prim.Native.Nat.{ℕ, ◌+◌, ◌*◌, ◌-◌, min}
-use Rattle.decisions.specs.declared.Decision.{Decision}
+use Prim.Native.Nat.{ℕ, ◌+◌, ◌*◌, min}
+use Rattle.decisions.specs.Records.{Decision}
 use Rattle.node.specs.declared.Cell.{Cell}
 use Rattle.node.specs.declared.Slot.{Slot}
 use Rattle.node.specs.Mailboxes.{slot_of}

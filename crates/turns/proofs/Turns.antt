@@ -3,9 +3,9 @@
 --   Cleared e      and nothing refuses it but a search that finds no message
 --   turn_refused   a refusal is the rule's;  turn_cleared, turn_searching  without one the decision is cleared
 --   turn_done      a decision that searches no mailbox is committed
---   run_searched, timeout_searched   where the mailbox is searched, what the search answers decides; search_hit, search_over  what it answers
+--   run_searched, timeout_searched   where the mailbox is searched, what the search answers decides; search_is  what the code's search answers
 use mathlib.Core.Bool.{Bool, true, false, So, cond, ◌&&◌, false≢true}
-use mathlib.Core.List.{List, [], ◌∷◌}
+use mathlib.Core.List.{List, [], ◌∷◌, map}
 use mathlib.Core.Logic.{◌⊎◌, inl, inr, ⊎_elim}
 use mathlib.Core.Option.{Option, none, some}
 use mathlib.Core.Path.{◌≡◌, refl, sym, ◌∙◌, ap, subst}
@@ -16,11 +16,11 @@ use native.Mathlib.Omega.{arith}
 use borrow.Author.Tests.{not-true, not-false, eq-eqb, ne_eqb, eqb-true, eqb-false, leb-true, leb-false, ltb-true, ltb-false, lt-ltb, le-ltb}
 use lib.Dec.{eqb, leb, ltb}
 use lib.ListN.{length, get_or, take, drop, set, length-take, length-drop, length-set, get_or-eq_default}
-use lib.Seq.{get_or-take, get_or-drop, set-get_or}
+use lib.Seq.{get_or-take, get_or-drop, take-take, ext_get_or, set-get_or}
 use Rattle.actions.specs.declared.Decoded.{Decoded}
 use Rattle.actions.specs.Places.{process_at, row_at, behaviour_at, op_at}
 use Rattle.actions.proofs.Decoding.{Means}
-use Rattle.decisions.specs.declared.Decision.{Decision}
+use Rattle.decisions.specs.Records.{Decision}
 use Rattle.decisions.specs.Decided.{decided_of, pair_refusal, birth_refusal}
 use Rattle.decisions.specs.Answers.{state_of, refusing, sent_of, born_of, effect_of, ran, arrived, expired, answer_of}
 use Rattle.decisions.proofs.Meanings.{At, Only, run_means, run_only, arrival_means, arrival_quiet, timeout_means, timeout_only}
@@ -39,22 +39,19 @@ use Rattle.node.specs.Ops.{recv_op, after_op}
 use Rattle.node.specs.Processes.{fresh, moved}
 use Rattle.node.specs.Rows.{no_signal, cell_of, oldest}
 use Rattle.node.specs.Values.{pid, is_number}
-use Rattle.node.proofs.Contents.{messages_length, messages_at, signals_length}
+use Rattle.node.proofs.Contents.{messages_length, signals_length}
+use Rattle.node.proofs.Lists.{firsts_take}
 use Rattle.rules.specs.Answers.{Answer, refused, done, need, bad_number, owner_unborn, none_in_flight, mailbox_empty, no_fit, pair_full, not_unborn, no_timeout}
 use Rattle.rules.specs.Effects.{State, unchanged, joining, leaving, Effect}
 use Rattle.rules.specs.Nodes.{Sound, behaviours_of, code, process, mailbox, row}
-use Rattle.rules.specs.Receive.{Fit, fits, first_clause, search, with_message, Searched, silent, unfit, fit, answered, search_number, receives_by, receives}
+use Rattle.rules.specs.Receive.{Fit, search, with_message, Searched, silent, unfit, fit, answered, search_number, receives_by, receives}
 use Rattle.rules.specs.Run.{runs}
 use Rattle.rules.specs.Steps.{Action, run, arrive, timeout, owner, is_unborn, numbered, owner_born, signal_waits, pair_has_room, number_free, incoming, decide, with_arrival, with_sending, with_mail}
 use Rattle.rules.specs.Steps.{without_mail, with_birth, commit, rule}
 use Rattle.rules.specs.Timeout.{behind_clauses, at_after, expires_if, expires_live, expires}
 use Rattle.rules.proofs.Commute.{incoming_oldest}
-use Rattle.receive.specs.Found.{after_search, fit_index}
+use Rattle.receive.specs.Found.{after_search, fit_index, clauses_in, mail_in, searched_in}
 use Rattle.receive.specs.Waiting.{timeout_refusal}
-use Rattle.receive.specs.declared.Kinds.{Kinds}
-use Rattle.receive.specs.Kinds.{no_kinds, noted, noted_all, widened, takes}
-use Rattle.receive.proofs.KindSets.{left_out, noting_turn, noting_end}
-use Rattle.receive.proofs.Laws.{message_turn, message_end, clause_hit, clause_miss, clause_end, so_far, answered_none, answered_fit}
 use Rattle.rules.proofs.Living.{alive}
 use Rattle.rules.proofs.Keeps.{Keeps}
 use Rattle.rules.proofs.Commits.{Parts, parts_of, decided_keeps, owner_number}
@@ -78,19 +75,6 @@ oldest_at n k =
 -- the cell behind the signals of a row that has room
 cell_place : (y c : ℕ) → y < 256 → c < 4 → 4 * y + c ≡ cell_at y c
 cell_place y c h g = omega arith
-
--- clauses stand from x + 1 on, s of them
-clause_inside : (x c s : ℕ) → x + 1 ≤ c → c < min (x + 1 + s) 256 → (c - (x + 1) < s) × (x + 1 + (c - (x + 1)) ≡ c)
-clause_inside x c s h g = (omega arith, omega arith)
-
-clause_beyond : (x c s : ℕ) → x + 1 + s ≤ 256 → min (x + 1 + s) 256 ≤ c → s ≤ c - (x + 1)
-clause_beyond x c s h g = omega arith
-
-next_clause : (x c : ℕ) → x + 1 ≤ c → c - (x + 1) + 1 ≡ c + 1 - (x + 1)
-next_clause x c h = omega arith
-
-next_slot : (f s : ℕ) → f ≤ s → s - f + 1 ≡ s + 1 - f
-next_slot f s h = omega arith
 
 -- a count that has room is a byte
 byte_more : (c : ℕ) → c < 4 → (c + 1 ≡ min (c + 1) 255) × (c < 255)
@@ -171,6 +155,28 @@ module _ (n : Node) (whole : Parts n) (i : ℕ) (number : So (is_number i)) (liv
             let f : min (min (place_at n Q + 1 + o.small) 256) 255 ≡ place_at n Q + (1 + o.small) = omega (arith, known, short, h) in
             ap (λ (x : ℕ). get_or n.ops x no_op) f ∙ op_is (1 + o.small) (omega (arith, h)) ∙ ap (λ (x : ℕ). get_or (code n b) x no_op) e;
       }
+
+-- the clauses of a recv and the messages of a mailbox, where they stand
+
+module _ (n : Node) (whole : Parts n) where
+  pub clauses_lent : (p : Process) → Clauses n p → clauses_in n.ops (place_at n p + 1) (get_or n.ops (place_at n p) no_op).small ≡ clauses_of n p
+  clauses_lent p w =
+      let x = place_at n p + 1 in
+      let s = (get_or n.ops (place_at n p) no_op).small in
+      let l : length (take s (drop x n.ops)) ≡ s = length-take s (drop x n.ops) ∙ rw (length-drop x n.ops, whole.sized.ops) (omega (arith, w.within)) in
+      ext_get_or no_op (take s (drop x n.ops)) (clauses_of n p) (l ∙ sym w.size)
+      (λ k h.
+      let g : k < s = rw l at h in
+      get_or-take s (drop x n.ops) k no_op g ∙ get_or-drop x n.ops k no_op ∙ w.read k (rw w.size g))
+
+  pub mail_lent : (k : ℕ) → k < 16 → get_or n.waiting k 0 ≤ 16 → mail_in n.slots (16 * k) (get_or n.waiting k 0) ≡ messages (block_of 16 k (mail_shelf n))
+  unfolding messages
+  mail_lent k b few =
+      let w = get_or n.waiting k 0 in
+      let box = drop (16 * k) n.slots in
+      let size : length (take 16 box) ≡ 16 =
+      whole-block 16 k (mail_shelf n) (record { cells = rw whole.sized.mail.cells (omega (arith, b)); counts = rw whole.sized.mail.counts (omega (arith, b)) }) in
+      ap (map (λ (s : Slot). s.message)) (sym (firsts_take no_message w (take 16 box) (rw size few) ∙ take-take w 16 box few))
 
 -- without messages no fit is found
 none_received : (code : List Op) (st : State) → receives code (state_of st.process []) (get_or code st.process.place no_op) ≡ refused mailbox_empty
@@ -428,7 +434,7 @@ module _ (n : Node) (sound : Sound n) {a : Action} (t : Decoded) (m : Means a t)
     is_ready z = ⊎_elim (λ w. absurd (w.0 z)) (λ w. w) (verdict e says)
 
     -- its own refusal
-    own_refused : (e.refusal ≡ 0 → ⊥) → rule n a ≡ refused e.refusal
+    pub own_refused : (e.refusal ≡ 0 → ⊥) → rule n a ≡ refused e.refusal
     unfolding Early
     own_refused z = ⊎_elim (λ w. w.2) (λ w. rule_undecided n a w.numbers w.awake w.waits e.refusal (w.decided ∙ go w e.receives refl)) (verdict e says)
       where
@@ -577,12 +583,30 @@ module _ (n : Node) (sound : Sound n) {a : Action} (t : Decoded) (m : Means a t)
     abbrev pub stored_mail : Shelf Slot
     stored_mail = record { cells = set n.slots join (slot_next (get_or n.slots join no_message) e); counts = set n.waiting t.at (waiting_next W e) }
 
+    -- the mail where a message joins, and where none does
+    pub mail_joined : e.joins ≡ true → stored_mail ≡ record { cells = set n.slots join (slot_of e.message); counts = set n.waiting t.at (min (W + 1) 255) }
+    unfolding slot_next waiting_next
+    mail_joined h = rw h
+
+    pub mail_kept : e.joins ≡ false → stored_mail ≡ mail_shelf n
+    unfolding slot_next waiting_next
+    mail_kept h = rw (h, set-get_or n.slots join no_message, set-get_or n.waiting t.at 0)
+
     -- the mail, where the message in slot k leaves and those behind it move up
     abbrev pub left_mail : ℕ → Shelf Slot
     left_mail k = record { cells = up k top n.slots; counts = set n.waiting t.at (W - 1) }
 
     abbrev pub stored_flight : Shelf Cell
     stored_flight = record { cells = set n.cells sent_at (cell_next (get_or n.cells sent_at no_signal) e); counts = set n.counts Y (sent_next sent_before e) }
+
+    -- the signals in flight where one is sent, and where none is
+    pub flight_sent : e.sends ≡ true → stored_flight ≡ record { cells = set n.cells sent_at (cell_of e.signal); counts = set n.counts Y (min (sent_before + 1) 255) }
+    unfolding cell_next sent_next
+    flight_sent h = rw h
+
+    pub flight_kept : e.sends ≡ false → stored_flight ≡ flight_shelf n
+    unfolding cell_next sent_next
+    flight_kept h = rw (h, set-get_or n.cells sent_at no_signal, set-get_or n.counts Y 0)
 
     -- the step is accepted: its owner becomes next, and no message leaves
     pub record Committed (next : Process) : Type 0 where
@@ -949,127 +973,17 @@ module _ (n : Node) (sound : Sound n) {a : Action} (t : Decoded) (m : Means a t)
             ∙ ap (with_sending (with_arrival (flight_shelf n) a) (owner a)) (sym w.sent) in
             λ x. made n (processes_stored h x) (mail_stored h x) (flight x)
 
-    -- ---- the search: slot k is looked at, and of its clauses the one at c
+    -- ---- the search: its clauses and its messages, where they stand
 
-    abbrev first_fit : Option Fit
-    first_fit = search (clauses_of n P) 0 M
+    clauses_read : e.receives ≡ true → clauses_in n.ops (place_at n P + 1) O.small ≡ clauses_of n P
+    clauses_read q = clauses_lent n whole P (clauses (turn_searching q) q)
 
-    -- the messages from the k-th on are left
-    abbrev pub AtMessage : ℕ → Type 0
-    AtMessage k = first_fit ≡ search (clauses_of n P) k (drop k M)
+    mail_read : e.receives ≡ true → t.at < 16 → mail_in n.slots (16 * t.at) W ≡ M
+    mail_read q b = mail_lent n whole t.at b (waiting_bound (turn_searching q) q)
 
-    -- of message x, the k-th, the clauses from the c-th on are left
-    abbrev pub AtClause : ℕ → ℕ → Message → Type 0
-    AtClause k c x = first_fit ≡ first_clause (drop c (clauses_of n P)) k x (search (clauses_of n P) (k + 1) (drop (k + 1) M))
-
-    -- a slot is looked at only where the mailbox is searched
-    looked : (k : ℕ) → 16 * t.at ≤ k → k < top → e.receives ≡ true
-    unfolding searched_of
-    looked k h g = go e.receives refl
-      where
-        go : (b : Bool) → e.receives ≡ b → e.receives ≡ true
-        go true q = q
-        go false q = let x : top ≡ 16 * t.at + 0 = rw q in absurd (omega (arith, x, h, g))
-
-    looked_bound : (k : ℕ) → 16 * t.at ≤ k → k < top → (k - 16 * t.at < W) × (k - 16 * t.at < 16) × (16 * t.at + (k - 16 * t.at) ≡ k)
-    unfolding searched_of
-    looked_bound k h g =
-        let x : top ≡ 16 * t.at + min W 16 = rw (looked k h g) in
-        (omega (arith, x, h, g), omega (arith, x, h, g), omega (arith, h))
-
-    pub message_at : (k : ℕ) → 16 * t.at ≤ k → k < top → AtMessage (k - 16 * t.at) → AtClause (k - 16 * t.at) 0 (get_or n.slots k no_message).message
-    message_at k h g v =
-        let b = looked_bound k h g in
-        let box = block_of 16 t.at (mail_shelf n) in
-        let j = k - 16 * t.at in
-        let read : get_or M j no_message.message ≡ (get_or n.slots k no_message).message =
-        messages_at box j b.0
-        ∙ ap (λ (s : Slot). s.message) (get_or-take 16 (drop (16 * t.at) n.slots) j no_message b.1 ∙ get_or-drop (16 * t.at) n.slots j no_message ∙ ap (λ (i : ℕ). get_or n.slots i no_message)
-        b.2) in
-        rw read at (message_turn M (clauses_of n P) j no_message.message (rw mail_size_lem b.0) v)
-
-    -- its clauses stand behind the op
-    clauses_at : e.receives ≡ true → Clauses n P
-    clauses_at q = clauses (turn_searching q) q
-
-    clause_read : e.receives ≡ true → (c : ℕ) → place_at n P + 1 ≤ c → c < min (place_at n P + 1 + O.small) 256 → (c - (place_at n P + 1) < length (clauses_of n P))
-        × (get_or n.ops c no_op ≡ get_or (clauses_of n P) (c - (place_at n P + 1)) no_op)
-    clause_read q c l u =
-        let w = clauses_at q in
-        let inside = clause_inside (place_at n P) c O.small l u in
-        let here : c - (place_at n P + 1) < length (clauses_of n P) = rw w.size inside.0 in
-        (here, ap (λ (j : ℕ). get_or n.ops j no_op) (sym inside.1) ∙ w.read (c - (place_at n P + 1)) here)
-
-    -- all of them were looked at
-    clause_past : e.receives ≡ true → (c : ℕ) → min (place_at n P + 1 + O.small) 256 ≤ c → length (clauses_of n P) ≤ c - (place_at n P + 1)
-    clause_past q c high = let w = clauses_at q in rw w.size (clause_beyond (place_at n P) c O.small w.within high)
-
-    -- ---- the kinds are noted: the clauses from the k-th on are left
-
-    abbrev pub AtNoting : Kinds → ℕ → Type 0
-    AtNoting ks k = noted_all no_kinds (clauses_of n P) ≡ noted_all ks (drop k (clauses_of n P))
-
-    -- the kinds that its clauses can take
-    abbrev pub kinds_here : Kinds
-    kinds_here = widened (noted_all no_kinds (clauses_of n P))
-
-    module _ (q : e.receives ≡ true) (ks : Kinds) (c : ℕ) where
-      pub noted_more : place_at n P + 1 ≤ c → c < min (place_at n P + 1 + O.small) 256 → AtNoting ks (c - (place_at n P + 1))
-          → AtNoting (noted ks (get_or n.ops c no_op)) (c + 1 - (place_at n P + 1))
-      noted_more low high v =
-          let r = clause_read q c low high in
-          rw (r.1, ← next_clause (place_at n P) c low) (noting_turn (clauses_of n P) ks (c - (place_at n P + 1)) r.0 v)
-
-      pub noted_over : min (place_at n P + 1 + O.small) 256 ≤ c → AtNoting ks (c - (place_at n P + 1)) → widened ks ≡ kinds_here
-      noted_over high v = sym (ap widened (noting_end (clauses_of n P) ks (c - (place_at n P + 1)) (clause_past q c high) v))
-
-    -- ---- the turns of the search
-
-    module _ (s : ℕ) (from : 16 * t.at ≤ s) where
-      -- a message that no clause can take is left out
-      pub left_aside : (x : Message) → takes kinds_here x ≡ false → AtClause (s - 16 * t.at) 0 x → AtMessage (s + 1 - 16 * t.at)
-      left_aside x h v =
-          let k = s - 16 * t.at in
-          rw (next_slot (16 * t.at) s from) at (v ∙ left_out (clauses_of n P) x h k (search (clauses_of n P) (k + 1) (drop (k + 1) M)))
-
-    module _ (s c : ℕ) (from : 16 * t.at ≤ s) (below : s < top) (low : place_at n P + 1 ≤ c) where
-      abbrev msg : Message
-      msg = (get_or n.slots s no_message).message
-
-      abbrev later : Option Fit
-      later = search (clauses_of n P) (s - 16 * t.at + 1) (drop (s - 16 * t.at + 1) M)
-
-      module _ (high : c < min (place_at n P + 1 + O.small) 256) where
-        fit_here : fits (get_or n.ops c no_op) msg ≡ true → AtClause (s - 16 * t.at) (c - (place_at n P + 1)) msg
-            → first_fit ≡ some (record { index = s - 16 * t.at; message = msg; clause = get_or (clauses_of n P) (c - (place_at n P + 1)) no_op })
-        fit_here f v = let r = clause_read (looked s from below) c low high in clause_hit (clauses_of n P) (s - 16 * t.at) (c - (place_at n P + 1)) msg later r.0 (rw r.1 at f) v
-
-        pub search_hit : fits (get_or n.ops c no_op) msg ≡ true → AtClause (s - 16 * t.at) (c - (place_at n P + 1)) msg
-            → S ≡ fit (record { index = s - 16 * t.at; message = msg; clause = get_or n.ops c no_op })
-        search_hit f v =
-            let r = clause_read (looked s from below) c low high in
-            answered_fit M (fit_here f v) ∙ ap (λ (o : Op). fit (record { index = s - 16 * t.at; message = msg; clause = o })) (sym r.1)
-
-        pub missed : fits (get_or n.ops c no_op) msg ≡ false → AtClause (s - 16 * t.at) (c - (place_at n P + 1)) msg → AtClause (s - 16 * t.at) (c + 1 - (place_at n P + 1)) msg
-        missed f v =
-            let r = clause_read (looked s from below) c low high in
-            let e : c - (place_at n P + 1) + 1 ≡ c + 1 - (place_at n P + 1) = next_clause (place_at n P) c low in
-            rw e at (clause_miss (clauses_of n P) (s - 16 * t.at) (c - (place_at n P + 1)) msg later r.0 (rw r.1 at f) v)
-
-      pub passed : min (place_at n P + 1 + O.small) 256 ≤ c → AtClause (s - 16 * t.at) (c - (place_at n P + 1)) msg → AtMessage (s + 1 - 16 * t.at)
-      passed high v =
-          let all = clause_past (looked s from below) c high in
-          let e : s - 16 * t.at + 1 ≡ s + 1 - 16 * t.at = next_slot (16 * t.at) s from in
-          rw e at (clause_end (clauses_of n P) (s - 16 * t.at) (c - (place_at n P + 1)) msg later all v)
-
-    -- all messages were looked at, and none fits
-    pub search_over : (q : e.receives ≡ true) (s : ℕ) → 16 * t.at ≤ s → s ≤ top → top ≤ s → AtMessage (s - 16 * t.at) → S ≡ so_far (s - 16 * t.at)
-    unfolding searched_of
-    search_over q s from within above v =
-        let x : top ≡ 16 * t.at + min W 16 = rw q in
-        let few : W ≤ 16 = waiting_bound (turn_searching q) q in
-        let all : length M ≡ s - 16 * t.at = mail_size_lem ∙ omega (arith, x, few, from, within, above) in
-        answered_none M (message_end M (clauses_of n P) (s - 16 * t.at) no_message.message (omega (arith, all)) v) ∙ ap so_far all
+    -- what the search of the code answers, where `at` is the place behind the recv
+    pub search_is : e.receives ≡ true → t.at < 16 → searched_in (clauses_in n.ops (place_at n P + 1) O.small) (mail_in n.slots (16 * t.at) W) ≡ S
+    search_is q b = λ i. searched_in (clauses_read q i) (mail_read q b i)
 
     -- the search is over: what a run and a timeout do
     pub run_searched : e.receives ≡ true → t.expires ≡ false → ((search_number S ≡ 0 → ⊥) × (rule n a ≡ refused (search_number S))) ⊎ ((search_number S ≡ 0) × (rule n a ≡ done (received S)))

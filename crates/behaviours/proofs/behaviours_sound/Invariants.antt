@@ -1,16 +1,12 @@
--- `behaviours_sound` tests op after op, behaviour after behaviour. The loop keeps that what is left gives the answer. Assumes nothing.
-use Prim.Native.Nat.{◌*◌, ◌-◌, ◌≤◌}
+-- `behaviours_sound` tests behaviour after behaviour. The loop keeps that those that are left give the answer. Assumes nothing.
+use mathlib.Core.Path.{◌≡◌}
+use lib.ListN.{drop}
 use Rattle.node.specs.Lists.{all_of}
 use Rattle.rules.specs.Behaviours.{code_sound}
-use Rattle.behaviours.proofs.Pass.{Pass}
 use Rattle.behaviours.specs.Codes.{codes_in}
-use lib.ListN.{get_or}
 use Rattle.behaviours.proofs.behaviours_sound.Given as goal
 
 abbrev pub invariant-loop-b : goal.invariant-loop-b
 invariant-loop-b l =
-    (l.count ≤ 8) × (l.b ≤ l.count) × (l.t ≤ get_or l.lens l.b 0 - 1) × (l.t ≤ 31)
-    × Pass l.count l.lens l.ops l.b l.t l.due (all_of (code_sound l.count) (codes_in l.count l.lens l.ops))
-
-abbrev pub decreases-loop-b : goal.decreases-loop-b
-decreases-loop-b l = 32 * (l.count - l.b) - l.t
+    let codes = codes_in l.count l.lens l.ops in
+    all_of (code_sound l.count) codes ≡ all_of (code_sound l.count) (drop l.b codes)

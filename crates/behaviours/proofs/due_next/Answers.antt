@@ -1,31 +1,21 @@
--- `due_next` gives `due_next`. Assumes nothing.
+-- `due_next` gives `due_next`, by the number of the op. Assumes nothing.
+use native.Mathlib.Omega.{arith}
 use Rattle.node.specs.Ops.{clause_op, recv_op}
 use Rattle.rules.specs.Behaviours.{instruction}
 use Rattle.behaviours.proofs.Codes.{clause_count_lem}
 use borrow.Author.Tests.{eq-eqb, ne_eqb}
-use native.Mathlib.Omega.{arith}
 use Rattle.behaviours.proofs.due_next.Goals as goal
 
-pub returns-then-number-eq-RECV : goal.returns-then-number-eq-RECV
+pub returns-in-10 : goal.returns-in-10
 unfolding instruction
-returns-then-number-eq-RECV c =
+returns-in-10 c =
     let o = c.args.op in
-    rw (eq-eqb o.number recv_op c.if-number-eq-RECV.true, clause_count_lem o c.if-number-eq-RECV.true)
+    rw (eq-eqb o.number recv_op c.in-10.is, clause_count_lem o c.in-10.is)
 
-pub returns-then-due-gt0 : goal.returns-then-due-gt0
+pub returns-in-11 : goal.returns-in-11
 unfolding instruction
-returns-then-due-gt0 c =
-    let o = c.args.op in
-    rw (ne_eqb o.number recv_op c.if-number-eq-RECV.false, eq-eqb o.number clause_op c.if-number-eq-CLAUSE.true)
+returns-in-11 c = rw (c.in-11.is, c.saturating_sub.ensures)
 
-pub returns-else-due-gt0 : goal.returns-else-due-gt0
+pub returns-in_default : goal.returns-in_default
 unfolding instruction
-returns-else-due-gt0 c =
-    let o = c.args.op in
-    rw (ne_eqb o.number recv_op c.if-number-eq-RECV.false, eq-eqb o.number clause_op c.if-number-eq-CLAUSE.true) (omega arith)
-
-pub returns-else-number-eq-CLAUSE : goal.returns-else-number-eq-CLAUSE
-unfolding instruction
-returns-else-number-eq-CLAUSE c =
-    let o = c.args.op in
-    rw (ne_eqb o.number recv_op c.if-number-eq-RECV.false, ne_eqb o.number clause_op c.if-number-eq-CLAUSE.false)
+returns-in_default c = rw (ne_eqb c.args.op.number recv_op (omega arith), ne_eqb c.args.op.number clause_op (omega arith))

@@ -1,26 +1,15 @@
--- `bench_step` tries what it read on what it loaded. Assumes nothing.
-use mathlib.Core.Path.{◌∙◌}
-use Rattle.controller.proofs.Room.{count_room, count_taken}
+-- `bench_step` takes one by one the steps that it read, from the node that it loaded on. Assumes nothing.
+use mathlib.Core.List.{List, map}
+use mathlib.Core.Path.{◌∙◌, ap}
+use borrow.Author.Rules.{rules}
+use Rattle.actions.specs.Numbers.{action_of}
+use Rattle.rules.specs.Steps.{Action}
 use Rattle.bench_c.specs.Rounds.{after, singly}
 use Rattle.bench_c.proofs.Laws.{of_texts}
 use Rattle.bench_c.proofs.bench_step.Goals as goal
 
-pub slice_bounds-numbers-end : goal.slice_bounds-numbers-end
-slice_bounds-numbers-end c =
-    let its-read = c.read-s in
-    let its-args = c.args in
-    count_room its-args.steps.now its-read.ensures
-
-pub slice_bounds-steps_singly-end : goal.slice_bounds-steps_singly-end
-slice_bounds-steps_singly-end c =
-    let its-read = c.read-s in
-    let its-args = c.args in
-    count_taken its-args.steps.now its-read.ensures
-
 pub returns : goal.returns
 returns c =
-    let its-steps-singly = c.steps_singly in
-    let its-read = c.read-s in
-    let its-load = c.load-l in
-    let its-args = c.args in
-    its-steps-singly.ensures ∙ of_texts (λ n l. after its-args.rounds 0 (singly n l)) its-args.plan.now its-args.steps.now its-load.ensures its-read.ensures
+    c.last_of.ensures (singly c.load.result.node (map action_of c.numbers_read-numbers.result.now)) (λ r p. search rules)
+    ∙ ap (λ (l : List Action). after c.args.rounds 0 (singly c.load.result.node l)) c.numbers_read-numbers.ensures.steps
+    ∙ of_texts (λ n l. after c.args.rounds 0 (singly n l)) c.args.plan.now c.args.steps.now c.load.ensures c.read-s.ensures

@@ -1,11 +1,11 @@
--- `bench_suggest` looks for a step on the node that the two texts lead to. Assumes nothing.
+-- `bench_suggest` looks at the node that the two texts lead to. Assumes nothing.
 use mathlib.Core.Path.{◌∙◌, ap}
-use Rattle.bench_c.specs.Rounds.{stuck_in}
+use borrow.Author.Rules.{rules}
+use Rattle.rules.specs.Suggest.{suggest}
+use Rattle.bench_c.specs.Rounds.{says_none, stuck_in}
+use Rattle.bench_c.proofs.Laws.{says_none_lem}
 use Rattle.bench_c.proofs.bench_suggest.Goals as goal
 
 pub returns : goal.returns
-returns c =
-    let its-suggests = c.suggests in
-    let its-reached = c.reached in
-    let its-args = c.args in
-    its-suggests.ensures ∙ ap (stuck_in its-args.rounds) its-reached.ensures
+unfolding stuck_in
+returns c = c.times.ensures (says_none (suggest c.reached-n.result)) (λ r p. search (rules, says_none_lem)) ∙ ap (stuck_in c.args.rounds) c.reached-n.ensures

@@ -2,9 +2,8 @@
 use Rattle.controller_c.proofs.Counts.{count_refused, count_reached}
 use Rattle.controller_c.proofs.open_controller_consulted.Goals as goal
 
-pub returns-then-r : goal.returns-then-r
-returns-then-r c = count_refused _ _ _ _ c.reach-r.ensures c.if-r.true
+pub returns-in-None : goal.returns-in-None
+returns-in-None c = count_refused _ _ _ c.in-None.ensures
 
-pub returns : goal.returns
-returns c =
-    count_reached _ _ _ _ c.reach-r.ensures c.if-r.false c.consultation.ensures c.count_number.ensures
+pub returns-in-Some : goal.returns-in-Some
+returns-in-Some c = count_reached _ _ _ c.in-Some.ensures c.consultation.ensures c.count_number.ensures

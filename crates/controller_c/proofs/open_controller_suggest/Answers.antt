@@ -2,9 +2,8 @@
 use Rattle.controller_c.proofs.Offers.{offer_refused, offer_reached}
 use Rattle.controller_c.proofs.open_controller_suggest.Goals as goal
 
-pub returns-then-r : goal.returns-then-r
-returns-then-r c = offer_refused _ _ _ c.reach-r.ensures c.if-r.true
+pub returns-in-None : goal.returns-in-None
+returns-in-None c = offer_refused _ _ c.in-None.ensures
 
-pub returns : goal.returns
-returns c =
-    offer_reached _ _ _ c.reach-r.ensures c.if-r.false c.suggest.ensures c.offer_number.ensures
+pub returns-in-Some : goal.returns-in-Some
+returns-in-Some c = offer_reached _ _ c.in-Some.ensures c.suggest.ensures c.offer_number.ensures

@@ -1,16 +1,10 @@
--- `written_number` goes by the number of the answer. Assumes nothing.
-use borrow.Author.Tests.{eq-eqb, ne_eqb}
+-- `written_number` tells the length, or what is told of the refusal. Assumes nothing.
 use Rattle.controller_c.specs.Exported.{exported_written}
 use Rattle.controller_c.proofs.written_number.Goals as goal
 
-pub returns-then-r-eq0 : goal.returns-then-r-eq0
+pub returns-in-Ok : goal.returns-in-Ok
 unfolding exported_written
-returns-then-r-eq0 c = rw (eq-eqb _ 0 c.if-r-eq0.true)
+returns-in-Ok c = rw c.in-Ok.is
 
-pub returns-then-r-eq-OUTPUT_SHORT : goal.returns-then-r-eq-OUTPUT_SHORT
-unfolding exported_written
-returns-then-r-eq-OUTPUT_SHORT c = rw (ne_eqb _ 0 c.if-r-eq0.false, eq-eqb _ 30 c.if-r-eq-OUTPUT_SHORT.true)
-
-pub returns : goal.returns
-unfolding exported_written
-returns c = rw (ne_eqb _ 0 c.if-r-eq0.false, ne_eqb _ 30 c.if-r-eq-OUTPUT_SHORT.false)
+pub returns-in-Err : goal.returns-in-Err
+returns-in-Err c = rw c.in-Err.is c.refusal_told.ensures

@@ -5,8 +5,7 @@ use Rattle.decisions.proofs.run.Goals as goal
 
 pub returns-in-Unborn : goal.returns-in-Unborn
 returns-in-Unborn c =
-    let its-refuses = c.refuses in
-    its-refuses.ensures ∙ at_stage c.args.i c.args.p c.args.len c.args.op c.in-Unborn.is
+    at_stage c.args.i c.args.p c.args.len c.args.op c.in-Unborn.is
 
 pub returns-in-Live : goal.returns-in-Live
 returns-in-Live c =
@@ -20,5 +19,4 @@ returns-in-Closing c =
 
 pub returns-in-Gone : goal.returns-in-Gone
 returns-in-Gone c =
-    let its-refuses2 = c.refuses-in-Gone in
-    its-refuses2.ensures ∙ at_stage c.args.i c.args.p c.args.len c.args.op c.in-Gone.is
+    at_stage c.args.i c.args.p c.args.len c.args.op c.in-Gone.is

@@ -1,11 +1,9 @@
--- `run_link`: to the process that r names. Assumes nothing.
+-- `run_link`: the process ends where r names none. Assumes nothing.
 use mathlib.Core.Path.{◌∙◌}
 use Rattle.node.specs.declared.Signal.TheVariants.{Link}
 use Rattle.node.specs.Processes.{linked}
-use Rattle.decisions.proofs.Laws.{to_named}
+use Rattle.decisions.proofs.Laws.{no_receiver}
 use Rattle.decisions.proofs.run_link.Goals as goal
 
-pub returns : goal.returns
-returns c =
-    let law = to_named c.args.i.0 c.args.p (linked c.args.p) Link in
-    c.send_to_other.ensures ∙ law c.register-v.ensures c.named.ensures c.linked-next.ensures
+pub returns-in_default : goal.returns-in_default
+returns-in_default c = c.end_badarg.ensures ∙ no_receiver c.args.i.0 c.args.p (linked c.args.p) Link c.register.ensures c.in_default.not-Pid

@@ -2,8 +2,4 @@
 use Rattle.decisions.proofs.run_self.Goals as goal
 
 pub returns : goal.returns
-returns c =
-    let its-becomes = c.becomes in
-    let its-advanced = c.advanced in
-    let its-with-register = c.with_register in
-    rw (its-becomes.ensures, its-advanced.ensures, its-with-register.ensures)
+returns c = rw (c.becomes.ensures, c.advanced.ensures, c.with_register.ensures)

@@ -1,6 +1,5 @@
 -- `put_members` writes the members of a set. The invariant: what is left to write are the members from k + 1 on,
--- with a comma before the next where one is written. Assumes nothing.
-use Prim.Native.Nat.{◌-◌}
+-- behind `comma` before the next one. Assumes nothing.
 use lib.ListN.{drop}
 use Rattle.rules.specs.Nodes.{set_of}
 use Rattle.node.specs.Values.{numbers}
@@ -10,7 +9,4 @@ use Rattle.listing_lines.proofs.Laws.{commaed}
 use Rattle.listing_lines.proofs.put_members.Given as goal
 
 abbrev pub invariant-loop-k : goal.invariant-loop-k
-invariant-loop-k l = Left l.initial.out l.at (with_commas (members (set_of l.set) numbers)) l.out l.e (commaed l.later (members (set_of l.set) (drop l.k numbers)))
-
-abbrev pub decreases-loop-k : goal.decreases-loop-k
-decreases-loop-k l = 16 - l.k
+invariant-loop-k l = Left l.initial.out l.at (with_commas (members (set_of l.set) numbers)) l.out l.e (commaed l.comma (members (set_of l.set) (drop l.k numbers)))

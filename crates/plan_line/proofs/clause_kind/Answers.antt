@@ -1,17 +1,42 @@
 -- `clause_kind` gives a clause's kind. Assumes nothing.
-use mathlib.Core.Path.{ap, ◌∙◌}
-use borrow.Author.Tests.{lt-ltb, le-ltb}
-use Rattle.plan_line.specs.Ops.{exact, clause_kind}
-use Rattle.plan_line.proofs.Ops.{kind_place}
+use mathlib.Core.Path.{refl, ◌∙◌}
+use Prim.Native.Nat.{◌+◌, ◌<◌}
+use native.Mathlib.Omega.{arith}
+use Rattle.std.proofs.Common.{rules}
+use lib.ListN.{length}
+use Rattle.std.specs.Prelude.{Ok, Err}
+use Rattle.text.specs.Parts.{index_of}
+use Rattle.words.specs.Words.{packed}
+use Rattle.plan_line.specs.Ops.{clause_words}
+use Rattle.plan_line.proofs.Ops.{found_at, kind_exact, kind_found}
+use Rattle.plan_line.proofs.Told.{err_fault}
 use Rattle.plan_line.proofs.clause_kind.Goals as goal
 
-pub returns-then-k : goal.returns-then-k
-unfolding clause_kind
-returns-then-k c = simp (← kind_place _ c.word_code.ensures c.kind_number-k.ensures, lt-ltb _ _ c.if-k.true)
+pub overflow_cast-result : goal.overflow_cast-result
+unfolding packed
+overflow_cast-result c =
+    let at = found_at (index_of c.args.s.now clause_words) (length clause_words) (c.in-Some.ensures clause_words refl refl) in
+    let small : c.in-Some.k < 256 = omega arith in
+    search rules
 
-pub returns : goal.returns
-unfolding clause_kind
-returns c =
-    let kind-number = c.kind_number-k in
-    let word-code = c.word_code in
-    simp (← kind_place _ word-code.ensures kind-number.ensures, le-ltb _ _ c.if-k.false) (c.exact_value.ensures ∙ ap exact c.read_value.ensures)
+pub overflow_add-result : goal.overflow_add-result
+unfolding packed
+overflow_add-result c =
+    let at = found_at (index_of c.args.s.now clause_words) (length clause_words) (c.in-Some.ensures clause_words refl refl) in
+    let small : c.in-Some.k + 1 < 256 = omega arith in
+    search rules
+
+pub returns-in-Some : goal.returns-in-Some
+unfolding packed
+returns-in-Some c = kind_found c.args.s.now (c.in-Some.ensures clause_words refl refl)
+
+pub returns-in_err-read_value-in-None : goal.returns-in_err-read_value-in-None
+unfolding packed
+returns-in_err-read_value-in-None c =
+    err_fault _ _ _ c.from_residual.ensures.1
+    ∙ kind_exact c.args.s.now (c.in-None.ensures clause_words refl refl) (Err c.in_err-read_value-in-None.field-0.0) c.in_err-read_value-in-None.ensures
+
+pub returns-in_ok-read_value-in-None : goal.returns-in_ok-read_value-in-None
+unfolding packed
+returns-in_ok-read_value-in-None c =
+    kind_exact c.args.s.now (c.in-None.ensures clause_words refl refl) (Ok c.in_ok-read_value-in-None.field-0) c.in_ok-read_value-in-None.ensures

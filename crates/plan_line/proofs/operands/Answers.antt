@@ -3,50 +3,62 @@
 use mathlib.Core.Path.{refl}
 use Prim.Native.Char.{code}
 use native.Mathlib.Omega.{arith}
-use borrow.Author.Rules.{rules}
 use Rattle.text.proofs.Parts.{place_after, place_inside}
 use Rattle.plan_line.proofs.Fields.{behind_next, behind_none, end_found}
-use Rattle.plan_line.proofs.Ops.{left_all, operand_missing, operand_more, operand_surplus, operands_end}
+use Rattle.plan_line.proofs.Ops.{stands_first, stands_more, stands_range, stands_malformed, operand_missing, operand_surplus, operands_range, operands_end}
 use Rattle.plan_line.proofs.operands.Goals as goal
+use Rattle.plan_line.proofs.operands.Goals.{in-Ok, in-Err-OutOfRange}
 
 pub loop-i-init : goal.loop-i-init
-loop-i-init c =
-    let pre = c.requires in
-    (search rules, c.operand_count-n.ensures, pre.0, rw c.bare_op-coded.ensures (left_all _ _ _ _ pre.1))
+loop-i-init c = (c.requires.0, stands_first _ _ _ _ c.requires.1 (rw c.blank.ensures))
 
 pub returns-then-rest-e : goal.returns-then-rest-e
 returns-then-rest-e c =
-    let turn = c.loop-i in
-    operand_missing _ _ _ turn.i _ _ turn.invariant.3 (omega arith) (behind_none _ turn.invariant.2 c.if-rest-e.true) c.no_code.ensures
+    let turn = c.loop-i.invariant in
+    operand_missing _ _ _ c.loop-i.i turn.1 (omega (arith, c.operand_count-i-end.ensures)) (behind_none _ turn.0 c.if-rest-e.true)
 
-pub slice_bounds-read_operand-count : goal.slice_bounds-read_operand-count
-slice_bounds-read_operand-count c = place_after (code ",") _ (omega arith) c.find-e.ensures
+pub slice_bounds-with_operand-count : goal.slice_bounds-with_operand-count
+slice_bounds-with_operand-count c = place_after (code ",") _ (omega arith) c.find-e.ensures
 
-pub slice_bounds-read_operand-start : goal.slice_bounds-read_operand-start
-slice_bounds-read_operand-start c = place_after (code ",") _ (omega arith) c.find-e.ensures
+pub slice_bounds-with_operand-start : goal.slice_bounds-with_operand-start
+slice_bounds-with_operand-start c = place_after (code ",") _ (omega arith) c.find-e.ensures
 
-pub slice_bounds-read_operand-end : goal.slice_bounds-read_operand-end
-slice_bounds-read_operand-end c = place_inside (code ",") _ (omega arith) c.find-e.ensures
+pub slice_bounds-with_operand-end : goal.slice_bounds-with_operand-end
+slice_bounds-with_operand-end c = place_inside (code ",") _ (omega arith) c.find-e.ensures
+
+pub returns-in-Err-Malformed : goal.returns-in-Err-Malformed
+returns-in-Err-Malformed c =
+    let turn = c.loop-i.invariant in
+    let next = behind_next _ turn.0 c.if-rest-e.false c.find-e.ensures in
+    stands_malformed _ _ _ c.loop-i.i turn.1 (omega (arith, c.operand_count-i-end.ensures)) next c.operand_kind.ensures (rw c.in-Err-Malformed.field-0-is at c.in-Err-Malformed.ensures)
 
 pub loop-i-preserved : goal.loop-i-preserved
 loop-i-preserved c =
-    let find = c.find-e in
-    let operand-kind = c.operand_kind-kind in
-    let if1 = c.if-rest-e in
-    let turn = c.loop-i in
-    let next = behind_next _ turn.invariant.2 if1.false find.ensures in (
-      search rules,
-      turn.invariant.1,
-      end_found _ (omega arith) find.ensures,
-      operand_more _ _ _ turn.i _ _ turn.invariant.3 (omega arith) next operand-kind.ensures c.read_operand.ensures c.with_joined-coded.ensures,
-    )
+    let turn = c.loop-i.invariant in
+    let next = behind_next _ turn.0 c.if-rest-e.false c.find-e.ensures in
+    elim c.match-with_operand.branch [
+      | in-Ok w ↦ (
+        end_found _ (omega arith) c.find-e.ensures,
+        rw (w.op-is, w.out_of_range-is) (stands_more _ _ _ c.loop-i.i turn.1 (omega (arith, c.operand_count-i-end.ensures)) next c.operand_kind.ensures w.in-Ok.ensures),
+      )
+      | in-Err-OutOfRange w ↦ (
+        end_found _ (omega arith) c.find-e.ensures,
+        rw (w.op-is, w.out_of_range-is)
+            (stands_range _ _ _ c.loop-i.i turn.1 (omega (arith, c.operand_count-i-end.ensures)) next c.operand_kind.ensures (rw w.in-Err-OutOfRange.field-0-is at w.in-Err-OutOfRange.ensures)),
+      )
+    ]
 
 pub returns-then-e-rest : goal.returns-then-e-rest
 returns-then-e-rest c =
-    let turn = c.loop-i in
-    operand_surplus _ _ _ turn.i _ _ turn.invariant.3 (omega arith) (behind_next _ turn.invariant.2 c.if-e-rest.true refl) c.no_code-then-e-rest.ensures
+    let turn = c.loop-i.invariant in
+    operand_surplus _ _ _ c.loop-i.i turn.1 (omega (arith, c.operand_count-i-end.ensures)) (behind_next _ turn.0 c.if-e-rest.true refl)
+
+pub returns-then-out_of_range : goal.returns-then-out_of_range
+returns-then-out_of_range c =
+    let turn = c.loop-i.invariant in
+    operands_range _ _ _ c.loop-i.i turn.1 (omega (arith, c.operand_count-i-end.ensures)) (behind_none _ turn.0 c.if-e-rest.false) c.if-out_of_range.true
 
 pub returns : goal.returns
 returns c =
-    let turn = c.loop-i in
-    operands_end _ _ _ turn.i _ _ turn.invariant.3 (omega arith) (behind_none _ turn.invariant.2 c.if-e-rest.false)
+    let turn = c.loop-i.invariant in
+    operands_end _ _ _ c.loop-i.i turn.1 (omega (arith, c.operand_count-i-end.ensures)) (behind_none _ turn.0 c.if-e-rest.false) c.if-out_of_range.false

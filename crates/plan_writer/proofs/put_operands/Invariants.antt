@@ -1,5 +1,4 @@
 -- `put_operands` writes the operands one by one. The invariant: what is left to write are those from i on. Assumes nothing.
-use Prim.Native.Nat.{◌≤◌, ◌-◌}
 use lib.ListN.{drop}
 use Rattle.node.specs.Ops.{kinds_of}
 use Rattle.text.specs.Writing.{each}
@@ -8,7 +7,4 @@ use Rattle.text.proofs.Writing.{Left}
 use Rattle.plan_writer.proofs.put_operands.Given as goal
 
 abbrev pub invariant-loop-i : goal.invariant-loop-i
-invariant-loop-i l = (l.i ≤ l.n) × (Left l.initial.out l.at (each (operand_in l.op) (kinds_of l.op.number)) l.out l.e (each (operand_in l.op) (drop l.i (kinds_of l.op.number))))
-
-abbrev pub decreases-loop-i : goal.decreases-loop-i
-decreases-loop-i l = l.n - l.i
+invariant-loop-i l = Left l.initial.out l.at (each (operand_in l.op) (kinds_of l.op.number)) l.out l.e (each (operand_in l.op) (drop l.i (kinds_of l.op.number)))

@@ -1,81 +1,39 @@
--- `read` gives the steps of a text. The invariant: the lines before the place are steps, and those are stored. Assumes nothing.
-use mathlib.Core.Path.{refl, ap}
-use Prim.Native.Char.{code}
+-- `read` gives the steps of a text. The invariant: the lines before the rest are steps, and those are stored. Assumes nothing.
+use mathlib.Core.Path.{◌≡◌, refl, sym, ◌∙◌}
 use native.Mathlib.Omega.{arith}
-use borrow.Author.Rules.{rules}
 use borrow.Author.Tests.{lt-ltb}
-use Rattle.text.proofs.Parts.{place_after, place_inside}
-use Rattle.schedule.specs.Reading.{line_of, schedule_of}
-use Rattle.schedule.proofs.Lines.{so_none, so_room, so_unended, so_malformed, so_more, so_over, so_all}
+use lib.Seq.{set_out}
+use Rattle.std.proofs.Common.{rules, tests, set}
+use Rattle.text.proofs.Ended.{piece_of}
+use Rattle.schedule.specs.Reading.{schedule_of}
+use Rattle.schedule.proofs.Lines.{so_none, so_room, so_refused, so_step, so_over, so_all}
 use Rattle.schedule.proofs.read.Goals as goal
+use Rattle.schedule.proofs.read.Goals.{then-count-lt-ROOM, else-count-lt-ROOM}
 
 pub returns-then-text-gt-LIMIT : goal.returns-then-text-gt-LIMIT
 unfolding schedule_of
-returns-then-text-gt-LIMIT c = simp (lt-ltb _ _ c.if-text-gt-LIMIT.true) c.refused.ensures
+returns-then-text-gt-LIMIT c = simp (lt-ltb _ _ c.if-text-gt-LIMIT.true) refl
 
-pub loop-at-init : goal.loop-at-init
-loop-at-init c = (search rules, search rules, search rules, so_none _)
+pub loop-line-init : goal.loop-line-init
+loop-line-init c = rw (c.into_iter-line-iterator.ensures.into_iter_gives, c.split_inclusive-line-items.ensures.rest) (so_none _)
 
-pub returns-then-text-e : goal.returns-then-text-e
-returns-then-text-e c =
-    let find = c.find-e in
-    let loop-test = c.loop-at-test in
-    let turn = c.loop-at in
-    so_unended turn.invariant.3 turn.invariant.2 turn.invariant.0 find.ensures loop-test.true c.if-text-e.true c.refused-then-text-e.ensures
-
-pub slice_bounds-read_line-count : goal.slice_bounds-read_line-count
-slice_bounds-read_line-count c =
-    let turn = c.loop-at in
-    place_after (code "\n") _ turn.invariant.0 c.find-e.ensures
-
-pub slice_bounds-read_line-start : goal.slice_bounds-read_line-start
-slice_bounds-read_line-start c =
-    let turn = c.loop-at in
-    place_after (code "\n") _ turn.invariant.0 c.find-e.ensures
-
-pub slice_bounds-read_line-end : goal.slice_bounds-read_line-end
-slice_bounds-read_line-end c =
-    let turn = c.loop-at in
-    place_inside (code "\n") _ turn.invariant.0 c.find-e.ensures
+pub loop-line-preserved : goal.loop-line-preserved
+loop-line-preserved c =
+    let piece = piece_of c.in-Some.ensures.steps (λ f a r q k. search (rules, tests)) in
+    let stored : c.if-count-lt-ROOM.steps ≡ set c.loop-line.steps c.loop-line.count c.in-Some-and_then.step =
+    elim c.if-count-lt-ROOM.branch [
+      | then-count-lt-ROOM w ↦ w.steps-is
+      | else-count-lt-ROOM w ↦ w.steps-is ∙ sym (set_out _ _ _ (omega (arith, so_room c.loop-line.invariant, w.if-count-lt-ROOM.false)))
+    ] in
+    so_step c.loop-line.invariant piece _ c.strip_suffix.ensures.cases c.and_then.ensures c.in-Some-and_then.is stored
 
 pub returns-in_default : goal.returns-in_default
 returns-in_default c =
-    let find = c.find-e in
-    let if2 = c.if-text-e in
-    let read-line = c.read_line-line in
-    let turn = c.loop-at in
-    so_malformed turn.invariant.3 turn.invariant.2 turn.invariant.0 find.ensures if2.false read-line.ensures (ap line_of c.in_default.is) c.refused-in_default.ensures
-
-pub slice_bounds-store-end : goal.slice_bounds-store-end
-slice_bounds-store-end c =
-    let turn = c.loop-at in
-    let room = so_room turn.invariant.3 in search rules
-
-pub loop-at-smaller : goal.loop-at-smaller
-loop-at-smaller c =
-    let find = c.find-e in
-    let turn = c.loop-at in
-    omega (arith, place_after (code "\n") _ turn.invariant.0 find.ensures)
-
-pub loop-at-preserved : goal.loop-at-preserved
-loop-at-preserved c =
-    let find = c.find-e in
-    let if2 = c.if-text-e in
-    let read-line = c.read_line-line in
-    let turn = c.loop-at in (
-      search rules,
-      omega (arith, place_after (code "\n") _ turn.invariant.0 find.ensures),
-      turn.invariant.2,
-      so_more turn.invariant.3 turn.invariant.2 turn.invariant.0 find.ensures if2.false read-line.ensures (ap line_of c.in-Step.is) c.store.ensures,
-    )
+    let piece = piece_of c.in-Some.ensures.steps (λ f a r q k. search (rules, tests)) in
+    so_refused c.loop-line.invariant piece _ c.if-text-gt-LIMIT.false c.strip_suffix.ensures.cases c.and_then.ensures c.in_default.is refl
 
 pub returns-then-count-gt-ROOM : goal.returns-then-count-gt-ROOM
-returns-then-count-gt-ROOM c =
-    let loop-test = c.loop-at-test in
-    let turn = c.loop-at in
-    so_over turn.invariant.3 turn.invariant.2 loop-test.false c.if-count-gt-ROOM.true c.refused-then-count-gt-ROOM.ensures
+returns-then-count-gt-ROOM c = so_over c.loop-line.invariant c.if-text-gt-LIMIT.false c.in-None.ensures.steps.0 c.if-count-gt-ROOM.true refl
 
 pub returns : goal.returns
-returns c =
-    let turn = c.loop-at in
-    so_all turn.invariant.3 turn.invariant.2 c.loop-at-test.false c.if-count-gt-ROOM.false refl
+returns c = so_all c.loop-line.invariant c.if-text-gt-LIMIT.false c.in-None.ensures.steps.0 c.if-count-gt-ROOM.false refl

@@ -5,4 +5,4 @@ use Rattle.steps.proofs.play_lent.Goals as goal
 pub returns : goal.returns
 returns c =
     let its-decoded = c.decoded-steps in
-    made_all c.args.n c.args.numbers.now its-decoded.result its-decoded.ensures c.lend_first.ensures
+    made_all c.args.n c.args.numbers.now its-decoded.result its-decoded.ensures c.play_steps.ensures

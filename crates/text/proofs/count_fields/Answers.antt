@@ -1,21 +1,17 @@
--- `count_fields` counts the fields of a line. The invariant: n and the fields from k on give the number, one counted twice. Assumes nothing.
-use native.Mathlib.Omega.{arith}
-use Rattle.text.proofs.Fields.{count_comma, count_other, count_end}
+-- `count_fields` counts the parts that the library's `split` gives. Assumes nothing.
+use mathlib.Core.Path.{ap, ◌∙◌}
+use mathlib.Core.List.{List}
+use Prim.Native.Nat.{ℕ}
+use lib.ListN.{length}
+use Rattle.std.proofs.Common.{eqb, rules, tests}
+use Rattle.std.proofs.lemmas.Iterator.Consumers.{count_from_yields_List}
+use Rattle.std.proofs.lemmas.Iterator.Splits.{YieldsList-from_slice_split}
+use Rattle.text.proofs.Fields.{fields_lem}
 use Rattle.text.proofs.count_fields.Goals as goal
-use Rattle.text.proofs.count_fields.Goals.{then-line-k-eq44, else-line-k-eq44}
-
-pub loop-k-init : goal.loop-k-init
-loop-k-init c = (omega arith, omega arith)
-
-pub loop-k-preserved : goal.loop-k-preserved
-loop-k-preserved c =
-    let i = c.loop-k.invariant.1 in
-    let h = c.loop-k-test.true in
-    elim c.if-line-k-eq44.branch [
-      | then-line-k-eq44 w ↦ (omega arith, omega (arith, count_comma _ _ _ i h w.if-line-k-eq44.true))
-      | else-line-k-eq44 w ↦
-          (omega arith, omega (arith, count_other _ _ _ i h w.if-line-k-eq44.false))
-    ]
 
 pub returns : goal.returns
-returns c = count_end _ _ _ c.loop-k.invariant.1 c.loop-k-test.false
+returns c =
+    let s = c.split.ensures in
+    count_from_yields_List c.split.result _ c.count.ensures.ran
+    (YieldsList-from_slice_split _ (λ b. eqb b 44) c.args.line.now s.rest s.done s.closure (λ x r q k. search (rules, tests)))
+    ∙ ap (λ (l : List (List ℕ)). length l) (fields_lem c.args.line.now)

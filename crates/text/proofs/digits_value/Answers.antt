@@ -1,30 +1,20 @@
--- `digits_value` gives the value of digits, held at the ceiling. The invariant: n and the digits from k on give it. Assumes nothing.
-use mathlib.Core.Path.{refl}
+-- `digits_value` gives the value of digits, held at the ceiling. The invariant: n and the digits from the index on give it. Assumes nothing.
+use mathlib.Core.Path.{sym, ◌∙◌}
 use native.Mathlib.Omega.{arith}
-use borrow.Author.Rules.{rules}
-use Rattle.text.proofs.Numbers.{digits_low, digits_high, digits_more, digits_end}
+use Rattle.text.specs.Numbers.{is_digit}
+use Rattle.text.proofs.Numbers.{digits_bad, digits_more, digits_end}
 use Rattle.text.proofs.digits_value.Goals as goal
 
-pub loop-k-init : goal.loop-k-init
-loop-k-init c = (search rules, refl)
+pub returns-then-not-is_ascii_digit : goal.returns-then-not-is_ascii_digit
+unfolding is_digit
+returns-then-not-is_ascii_digit c =
+    digits_bad _ _ _ c.loop-b.invariant.1 c.loop-b-test.true (sym c.is_ascii_digit.ensures.value ∙ c.if-not-is_ascii_digit.true)
 
-pub returns-then-s-k-lt48 : goal.returns-then-s-k-lt48
-returns-then-s-k-lt48 c = digits_low _ _ _ c.loop-k.invariant.1 c.loop-k-test.true c.if-s-k-lt48.true
-
-pub returns-then-s-k-gt57 : goal.returns-then-s-k-gt57
-returns-then-s-k-gt57 c =
-    let turn = c.loop-k in
-    let loop-test = c.loop-k-test in
-    let if1 = c.if-s-k-lt48 in
-    digits_high _ _ _ turn.invariant.1 loop-test.true if1.false c.if-s-k-gt57.true
-
-pub loop-k-preserved : goal.loop-k-preserved
-loop-k-preserved c =
-    let turn = c.loop-k in
-    let loop-test = c.loop-k-test in
-    let if1 = c.if-s-k-lt48 in
-    let if2 = c.if-s-k-gt57 in
-    (omega (arith, c.held-n.ensures), digits_more _ _ _ turn.invariant.1 loop-test.true if1.false if2.false c.held-n.ensures)
+pub loop-b-preserved : goal.loop-b-preserved
+unfolding is_digit
+loop-b-preserved c =
+    let digit = sym c.is_ascii_digit.ensures.value ∙ c.if-not-is_ascii_digit.false in
+    (omega (arith, c.held-n.ensures), digits_more _ _ _ c.loop-b.invariant.1 c.loop-b-test.true digit c.held-n.ensures)
 
 pub returns : goal.returns
-returns c = digits_end _ _ _ c.loop-k.invariant.1 c.loop-k-test.false c.loop-k.invariant.0
+returns c = digits_end _ _ _ c.loop-b.invariant.1 c.loop-b-test.false c.loop-b.invariant.0

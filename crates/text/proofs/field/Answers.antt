@@ -1,38 +1,15 @@
--- `field` gives field k of a line. The invariant: it is the field k - n of those from the place on. Assumes nothing.
-use Prim.Native.Char.{code}
-use native.Mathlib.Nat.{sub-zero}
-use borrow.Author.Rules.{rules}
-use Rattle.text.proofs.Fields.{field_here, field_next, field_none}
-use Rattle.text.proofs.Parts.{place_after, place_inside}
+-- `field` gives the part of a number of those that the library's `split` gives. Assumes nothing.
+use mathlib.Core.Path.{refl}
+use Rattle.std.proofs.Common.{eqb, rules, tests}
+use Rattle.std.proofs.lemmas.Iterator.Consumers.{nth_from_yields_List}
+use Rattle.std.proofs.lemmas.Iterator.Splits.{YieldsList-from_slice_split}
+use Rattle.std.specs.List.{slice_split}
+use Rattle.text.proofs.Fields.{fields_lem, part_or}
 use Rattle.text.proofs.field.Goals as goal
-
-pub loop-n-init : goal.loop-n-init
-loop-n-init c = (search rules, search rules, rw sub-zero)
-
-pub returns-then-line-e : goal.returns-then-line-e
-returns-then-line-e c =
-    let turn = c.loop-n in
-    let loop-test = c.loop-n-test in
-    let find = c.find-e in
-    field_none _ turn.invariant.0 find.ensures turn.invariant.2 loop-test.true c.if-line-e.true
-
-pub loop-n-preserved : goal.loop-n-preserved
-loop-n-preserved c =
-    let turn = c.loop-n in
-    let loop-test = c.loop-n-test in
-    (search rules, search rules, field_next _ turn.invariant.0 c.find-e.ensures turn.invariant.2 loop-test.true c.if-line-e.false)
-
-pub slice_bounds-result-count : goal.slice_bounds-result-count
-slice_bounds-result-count c = place_after (code ",") _ c.loop-n.invariant.0 c.find-e-2.ensures
 
 pub returns : goal.returns
 returns c =
-    let turn = c.loop-n in
-    let loop-test = c.loop-n-test in
-    field_here _ turn.invariant.0 c.find-e-2.ensures turn.invariant.2 loop-test.false
-
-pub slice_bounds-result-start : goal.slice_bounds-result-start
-slice_bounds-result-start c = place_after (code ",") _ c.loop-n.invariant.0 c.find-e-2.ensures
-
-pub slice_bounds-result-end-2 : goal.slice_bounds-result-end-2
-slice_bounds-result-end-2 c = place_inside (code ",") _ c.loop-n.invariant.0 c.find-e-2.ensures
+    let s = c.split.ensures in
+    rw (c.unwrap_or.ensures, ← fields_lem c.args.line.now)
+    (part_or (slice_split (λ b. eqb b 44) c.args.line.now) c.args.k _ _ (nth_from_yields_List c.nth.result c.nth.new.self c.args.k c.nth.ensures.ran
+    (YieldsList-from_slice_split _ (λ b. eqb b 44) c.args.line.now s.rest s.done s.closure (λ x r q k. search (rules, tests)))) refl)

@@ -1,10 +1,6 @@
 -- `find` gives the first place of a byte. The invariant: the bytes from k on give the place. Assumes nothing.
-use mathlib.Core.Path.{refl}
 use Rattle.text.proofs.Parts.{place_hit, place_miss, place_none}
 use Rattle.text.proofs.find.Goals as goal
-
-pub loop-k-init : goal.loop-k-init
-loop-k-init c = refl
 
 pub returns-then-s-k : goal.returns-then-s-k
 returns-then-s-k c = place_hit _ _ _ _ c.loop-k.invariant c.loop-k-test.true c.if-s-k.true

@@ -1,16 +1,13 @@
 -- `natural` gives the value of an unsigned number, held at the ceiling. Assumes nothing.
-use native.Mathlib.Omega.{arith}
-use Rattle.text.proofs.Numbers.{natural_none, natural_zero, natural_led, natural_other}
+use mathlib.Core.Path.{◌∙◌}
+use Rattle.text.proofs.Numbers.{natural_none, natural_zero, natural_other}
 use Rattle.text.proofs.natural.Goals as goal
 
-pub returns-then-s-eq0 : goal.returns-then-s-eq0
-returns-then-s-eq0 c = natural_none _ c.if-s-eq0.true
+pub returns-in_err-first : goal.returns-in_err-first
+returns-in_err-first c = c.from_residual.ensures ∙ natural_none _ c.in_err-first.ensures.value
 
-pub returns-then-s-eq1 : goal.returns-then-s-eq1
-returns-then-s-eq1 c = natural_zero _ c.if-s-eq48.true c.if-s-eq1.true
-
-pub returns-then-s-eq48 : goal.returns-then-s-eq48
-returns-then-s-eq48 c = natural_led _ (omega arith) c.if-s-eq48.true c.if-s-eq1.false
+pub returns-then-first-eq48 : goal.returns-then-first-eq48
+returns-then-first-eq48 c = c.then_some.ensures ∙ natural_zero _ c.in_ok-first.ensures.value c.if-first-eq48.true
 
 pub returns : goal.returns
-returns c = natural_other _ (omega arith) c.if-s-eq48.false c.digits_value.ensures
+returns c = natural_other _ c.in_ok-first.ensures.value c.if-first-eq48.false c.digits_value.ensures

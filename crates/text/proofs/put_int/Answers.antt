@@ -5,17 +5,7 @@ use Rattle.text.proofs.put_int.Goals as goal
 
 pub returns-then-z-lt0 : goal.returns-then-z-lt0
 returns-then-z-lt0 c =
-    let fits = c.ranges in
-    let if1 = c.if-z-lt0 in
-    let put_byte = c.put_byte-e in
-    let absolute = c.absolute in
-    let put-number = c.put_number in
-    rw (text_minus _ fits.z absolute.ensures if1.true) (wrote_then put_byte.ensures put-number.ensures)
+    rw (text_minus _ c.ranges.z c.unsigned_abs-n.ensures.value c.if-z-lt0.true) (wrote_then c.put_byte-e.ensures c.put_number.ensures)
 
 pub returns : goal.returns
-returns c =
-    let fits = c.ranges in
-    let if1 = c.if-z-lt0 in
-    let absolute2 = c.absolute-2 in
-    let put-number2 = c.put_number-2 in
-    rw (text_no_minus _ fits.z absolute2.ensures if1.false) put-number2.ensures
+returns c = rw (text_no_minus _ c.ranges.z c.unsigned_abs-n.ensures.value c.if-z-lt0.false) c.put_number-2.ensures

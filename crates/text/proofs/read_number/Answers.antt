@@ -1,47 +1,22 @@
 -- `read_number` gives the number that a text is, at any length. Assumes nothing.
 use mathlib.Core.Path.{sym, ◌∙◌}
 use Rattle.node.specs.Texts.{bytes}
-use Rattle.text.proofs.Numbers.{number_zero, number_minus, number_minus_bad, number_plus, number_plus_bad}
-use Rattle.text.proofs.Parts.{starts_long}
+use Rattle.text.proofs.Numbers.{number_zero, number_behind, number_whole}
+use Rattle.text.proofs.Parts.{equal_lem, strip_lem}
 use Rattle.text.proofs.read_number.Goals as goal
-
-pub returns-then-same : goal.returns-then-same
-returns-then-same c = number_zero _ c.same.ensures c.if-same.true
-
-pub slice_bounds-natural-count : goal.slice_bounds-natural-count
-slice_bounds-natural-count c = starts_long (bytes "-") _ (sym c.starts.ensures ∙ c.if-starts.true)
-
-pub returns-then-m-gt-CEILING : goal.returns-then-m-gt-CEILING
-returns-then-m-gt-CEILING c =
-    let same = c.same in
-    let if1 = c.if-same in
-    let starts = c.starts in
-    let if2 = c.if-starts in
-    number_minus_bad _ same.ensures if1.false starts.ensures if2.true c.natural-m.ensures c.if-m-gt-CEILING.true
-
-pub returns-then-starts : goal.returns-then-starts
-returns-then-starts c =
-    let same = c.same in
-    let if1 = c.if-same in
-    let starts = c.starts in
-    let if2 = c.if-starts in
-    number_minus _ same.ensures if1.false starts.ensures if2.true c.natural-m.ensures c.if-m-gt-CEILING.false
-
-pub returns-then-n-gt-CEILING : goal.returns-then-n-gt-CEILING
-returns-then-n-gt-CEILING c =
-    let same = c.same in
-    let if1 = c.if-same in
-    let starts = c.starts in
-    let if2 = c.if-starts in
-    number_plus_bad _ same.ensures if1.false starts.ensures if2.false c.natural-n.ensures c.if-n-gt-CEILING.true
+use Rattle.text.proofs.read_number.Goals.{in-Some, in-None}
 
 pub returns : goal.returns
 returns c =
-    let same = c.same in
-    let if1 = c.if-same in
-    let starts = c.starts in
-    let if2 = c.if-starts in
-    number_plus _ same.ensures if1.false starts.ensures if2.false c.natural-n.ensures c.if-n-gt-CEILING.false
+    let is = rw c.as_slice.ensures at c.eq.ensures in
+    let other = sym (equal_lem c.args.s.now (bytes "-0")) ∙ sym is ∙ c.if-eq.false in
+    let told = sym (strip_lem (bytes "-") c.args.s.now) in
+    rw c.ok_or.ensures.value (elim c.match-strip_prefix.branch [
+      | in-Some w ↦ rw w.n-is (number_behind _ other (told ∙ w.in-Some.ensures.cases.0) _ _ w.map-n.ensures.cases (rw w.in-Some.ensures.cases.1 at w.natural.ensures))
+      | in-None w ↦ rw w.n-is (number_whole _ other (told ∙ w.in-None.ensures.cases) _ _ w.map-n-in-None.ensures.cases w.natural-in-None.ensures)
+    ])
 
-pub slice_bounds-natural-start : goal.slice_bounds-natural-start
-slice_bounds-natural-start c = starts_long (bytes "-") _ (sym c.starts.ensures ∙ c.if-starts.true)
+pub returns-then-eq : goal.returns-then-eq
+returns-then-eq c =
+    let is = rw c.as_slice.ensures at c.eq.ensures in
+    number_zero _ (sym (equal_lem c.args.s.now (bytes "-0")) ∙ sym is ∙ c.if-eq.true)

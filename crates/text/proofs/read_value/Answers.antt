@@ -1,38 +1,45 @@
 -- `read_value` gives the value that a text is: its letter decides how its number is read. Assumes nothing.
-use mathlib.Core.Path.{ap, ◌∙◌}
-use borrow.Author.Tests.{eq-eqb, ne_eqb}
+use native.Mathlib.Omega.{arith}
+use Rattle.std.proofs.lemmas.Result.{err_from_is_err_and}
 use Rattle.node.specs.Values.{pid}
 use Rattle.node.specs.declared.Value.TheVariants.{Atom}
-use Rattle.text.specs.Values.{int_of, ranged_value, by_letter}
-use Rattle.text.proofs.Values.{value_none, value_by_letter}
+use Rattle.text.specs.Values.{by_letter}
+use Rattle.text.proofs.Values.{value_none, value_led, value_other, int_refused, ranged_refused, ranged_done}
 use Rattle.text.proofs.read_value.Goals as goal
 
-pub returns-then-s-eq0 : goal.returns-then-s-eq0
-returns-then-s-eq0 c = value_none _ c.if-s-eq0.true c.no_value.ensures
-
-pub returns-then-letter-eq105 : goal.returns-then-letter-eq105
+pub returns-in_ok-read_number-in-105 : goal.returns-in_ok-read_number-in-105
 unfolding by_letter
-returns-then-letter-eq105 c =
-    value_by_letter _ c.if-s-eq0.false
-    (simp (eq-eqb _ _ c.if-letter-eq105.true) (c.int_value.ensures ∙ ap int_of c.read_number.ensures))
+returns-in_ok-read_number-in-105 c = value_led _ c.in-Some.ensures.cases (rw (c.in-105.is, ← c.in_ok-read_number-in-105.ensures) c.int_value.ensures)
 
-pub returns-then-letter-eq97 : goal.returns-then-letter-eq97
+pub returns-in_ok-read_ranged-in-97 : goal.returns-in_ok-read_ranged-in-97
 unfolding by_letter
-returns-then-letter-eq97 c =
-    value_by_letter _ c.if-s-eq0.false
-    (simp (ne_eqb _ _ c.if-letter-eq105.false, eq-eqb _ _ c.if-letter-eq97.true) (ap (ranged_value Atom) c.read_ranged-n.ensures))
+returns-in_ok-read_ranged-in-97 c = value_led _ c.in-Some.ensures.cases (rw c.in-97.is (ranged_done Atom c.in_ok-read_ranged-in-97.ensures))
 
-pub returns-then-letter-eq112 : goal.returns-then-letter-eq112
+pub returns-in_ok-read_ranged-in-112 : goal.returns-in_ok-read_ranged-in-112
 unfolding by_letter
-returns-then-letter-eq112 c =
-    value_by_letter _ c.if-s-eq0.false
-    (simp (ne_eqb _ _ c.if-letter-eq105.false, ne_eqb _ _ c.if-letter-eq97.false, eq-eqb _ _ c.if-letter-eq112.true)
-    (ap (ranged_value pid) c.read_ranged-n-then-letter-eq112.ensures))
+returns-in_ok-read_ranged-in-112 c = value_led _ c.in-Some.ensures.cases (rw c.in-112.is (ranged_done pid c.in_ok-read_ranged-in-112.ensures))
 
-pub returns : goal.returns
+pub returns-in_default : goal.returns-in_default
+returns-in_default c = value_none _ c.in_default.ensures.cases
+
+pub returns-in_err-read_number-in-105 : goal.returns-in_err-read_number-in-105
 unfolding by_letter
-returns c =
-    let if1 = c.if-s-eq0 in
-    let if2 = c.if-letter-eq105 in
-    let if3 = c.if-letter-eq97 in
-    value_by_letter _ if1.false (simp (ne_eqb _ _ if2.false, ne_eqb _ _ if3.false, ne_eqb _ _ c.if-letter-eq112.false) c.no_value-2.ensures)
+returns-in_err-read_number-in-105 c =
+    let p = err_from_is_err_and c.from_residual.result c.from_residual.ensures.1 in
+    rw (p.1, p.2) (value_led _ c.in-Some.ensures.cases (rw c.in-105.is (int_refused _ c.in_err-read_number-in-105.ensures)))
+
+pub returns-in_err-read_ranged-in-97 : goal.returns-in_err-read_ranged-in-97
+unfolding by_letter
+returns-in_err-read_ranged-in-97 c =
+    let p = err_from_is_err_and c.from_residual-in_err-read_ranged-in-97.result c.from_residual-in_err-read_ranged-in-97.ensures.1 in
+    rw (p.1, p.2) (value_led _ c.in-Some.ensures.cases (rw c.in-97.is (ranged_refused Atom _ c.in_err-read_ranged-in-97.ensures)))
+
+pub returns-in_err-read_ranged-in-112 : goal.returns-in_err-read_ranged-in-112
+unfolding by_letter
+returns-in_err-read_ranged-in-112 c =
+    let p = err_from_is_err_and c.from_residual-in_err-read_ranged-in-112.result c.from_residual-in_err-read_ranged-in-112.ensures.1 in
+    rw (p.1, p.2) (value_led _ c.in-Some.ensures.cases (rw c.in-112.is (ranged_refused pid _ c.in_err-read_ranged-in-112.ensures)))
+
+pub returns-in_default-letter : goal.returns-in_default-letter
+returns-in_default-letter c =
+    value_led _ c.in-Some.ensures.cases (value_other _ (λ e. omega (arith, e)) (λ e. omega (arith, e)) (λ e. omega (arith, e)))

@@ -1,21 +1,24 @@
--- `store_digits` stores a number that has room, from its last digit on. The invariant: the digits in front are left. The measure is what they stand for. Assumes nothing.
+-- `store_digits` stores a number into as many bytes as it has digits, from its last digit on. The invariant: the digits in front are left.
+-- Assumes nothing.
 use native.Mathlib.Omega.{arith}
-use borrow.Author.Rules.{rules}
-use Rattle.text.proofs.Stores.{front_wide, front_more, front_end}
+use Rattle.text.proofs.Stores.{front_all, front_few, front_more, front_end}
 use Rattle.text.proofs.Digits.{digits_some}
 use Rattle.text.proofs.store_digits.Goals as goal
 
-pub overflow_sub-k : goal.overflow_sub-k
-overflow_sub-k c = omega (arith, front_wide c.loop-m.invariant c.loop-m-test.true)
+pub loop-k-init : goal.loop-k-init
+loop-k-init c = front_all _ _ c.requires
 
-pub bounds-out-at : goal.bounds-out-at
-bounds-out-at c = omega (arith, front_wide c.loop-m.invariant c.loop-m-test.true)
+pub loop-k-preserved : goal.loop-k-preserved
+loop-k-preserved c = front_more c.loop-k.invariant c.loop-k-test.true
 
-pub loop-m-preserved : goal.loop-m-preserved
-loop-m-preserved c = front_more c.loop-m.invariant c.loop-m-test.true
+pub overflow_cast-places-2 : goal.overflow_cast-places-2
+overflow_cast-places-2 c = record { fits = omega (arith, front_few c.loop-k.invariant c.loop-k-test.false) }
 
-pub bounds-out-at-2 : goal.bounds-out-at-2
-bounds-out-at-2 c = omega (arith, digits_some c.loop-m.m, c.loop-m.invariant.same)
+pub overflow_add-places-2 : goal.overflow_add-places-2
+overflow_add-places-2 c = record { fits = omega (arith, front_few c.loop-k.invariant c.loop-k-test.false) }
+
+pub bounds-places-0 : goal.bounds-places-0
+bounds-places-0 c = omega (arith, digits_some c.args.n, c.loop-k.invariant.same)
 
 pub returns : goal.returns
-returns c = front_end c.loop-m.invariant _ c.loop-m-test.false (search rules) (omega arith) (omega arith)
+returns c = front_end c.loop-k.invariant c.loop-k-test.false c.requires

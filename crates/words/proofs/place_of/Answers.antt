@@ -1,12 +1,12 @@
--- `place_of` gives the place of a number among numbers. The invariant: k and the numbers from k on give it. Assumes nothing.
-use Rattle.words.proofs.Words.{found_here, found_next, found_none}
+-- `place_of` gives the place of a number among numbers, as the library finds it. Assumes nothing.
+use mathlib.Core.Path.{◌∙◌}
+use Rattle.std.proofs.Common.{rules, tests}
+use Rattle.std.proofs.lemmas.Iterator.{YieldsList-from_slice}
+use Rattle.std.proofs.lemmas.Iterator.Search.{position_from_yields_List}
+use Rattle.words.proofs.Words.{position_place}
 use Rattle.words.proofs.place_of.Goals as goal
 
-pub returns-then-numbers-k : goal.returns-then-numbers-k
-returns-then-numbers-k c = found_here _ _ _ c.loop-k.invariant c.loop-k-test.true c.if-numbers-k.true
-
-pub loop-k-preserved : goal.loop-k-preserved
-loop-k-preserved c = found_next _ _ _ c.loop-k.invariant c.loop-k-test.true c.if-numbers-k.false
-
 pub returns : goal.returns
-returns c = found_none _ _ _ c.loop-k.invariant c.loop-k-test.false
+returns c =
+    position_from_yields_List _ _ _ c.position.result c.position.ensures.ran (YieldsList-from_slice c.args.numbers.now cc) (λ x b q k. search (rules, tests))
+    ∙ position_place c.args.n c.args.numbers.now

@@ -1,31 +1,24 @@
 -- `lists` tells the last listing's length; each listing but the first is written over itself. Assumes nothing.
 use mathlib.Core.Path.{◌∙◌, ap}
-use Rattle.listing.specs.declared.Listed.{Listed}
+use Rattle.listing.proofs.Laws.{told_length}
+use Rattle.listing.specs.Answers.{Listed}
 use Rattle.bench_c.proofs.Laws.{turn_first, turn_next, turn_last}
 use Rattle.bench_c.proofs.Listings.{list_turn, list_length}
 use Rattle.bench_c.proofs.rounds.lists.Goals as goal
 
-pub loop-i-init : goal.loop-i-init
-loop-i-init c = (turn_first, turn_first)
+pub rounds-init : goal.rounds-init
+rounds-init c = (turn_first, turn_first)
 
-pub loop-i-preserved : goal.loop-i-preserved
-loop-i-preserved c =
-    let its-list = c.list-l in
-    let its-loop-test = c.loop-i-test in
-    let its-loop = c.loop-i in
-    let its-args = c.args in
-    let again = list_turn its-args.n its-args.out.now its-loop.invariant.1 in (
-      turn_next its-loop.invariant.0 its-loop-test.true (ap (λ (r : Listed). r.length) (its-list.ensures.answer ∙ again.0)),
-      turn_next its-loop.invariant.1 its-loop-test.true (its-list.ensures.buffer ∙ again.1),
+pub rounds-preserved : goal.rounds-preserved
+rounds-preserved c =
+    let again = list_turn c.args.n c.args.out.now c.rounds.invariant.1 in
+    let length = c.unwrap_or-last.ensures ∙ told_length c.list.result ∙ ap (λ (r : Listed). r.length) (c.list.ensures.answer ∙ again.0) in (
+      turn_next c.rounds.invariant.0 c.rounds-test.true length,
+      turn_next c.rounds.invariant.1 c.rounds-test.true (c.list.ensures.buffer ∙ again.1),
     )
 
 pub shape_of-out : goal.shape_of-out
-shape_of-out c =
-    let its-args = c.args in
-    list_length its-args.n its-args.out.now c.loop-i.invariant.1
+shape_of-out c = list_length c.args.n c.args.out.now c.rounds.invariant.1
 
 pub returns : goal.returns
-returns c =
-    let its-loop-test = c.loop-i-test in
-    let its-loop = c.loop-i in
-    record { answer = turn_last its-loop.invariant.0 its-loop-test.false; buffer = turn_last its-loop.invariant.1 its-loop-test.false }
+returns c = record { answer = turn_last c.rounds.invariant.0 c.rounds-test.false; buffer = turn_last c.rounds.invariant.1 c.rounds-test.false }

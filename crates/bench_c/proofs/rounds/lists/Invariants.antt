@@ -1,11 +1,8 @@
 -- `lists` tells the last listing's length; each listing but the first is written over itself. Assumes nothing.
-use Prim.Native.Nat.{◌-◌}
 use Rattle.listing.specs.Answers.{list_told, list_shown}
 use Rattle.bench_c.proofs.Laws.{Turn}
 use Rattle.bench_c.proofs.rounds.lists.Given as goal
 
-abbrev pub invariant-loop-i : goal.invariant-loop-i
-invariant-loop-i l = Turn l.rounds 0 (list_told l.n l.initial.out).length l.i l.last × Turn l.rounds l.initial.out (list_shown l.n l.initial.out) l.i l.out
-
-abbrev pub decreases-loop-i : goal.decreases-loop-i
-decreases-loop-i l = l.rounds - l.i
+abbrev pub invariant-rounds : goal.invariant-rounds
+invariant-rounds l =
+    Turn l.rounds 0 (list_told l.n l.initial.out).length l.counter l.last × Turn l.rounds l.initial.out (list_shown l.n l.initial.out) l.counter l.out

@@ -1,12 +1,8 @@
 -- `Node::starts` puts the live processes into a row. The invariant: those before k are in it. Assumes nothing.
 use mathlib.Core.Path.{◌≡◌}
-use Prim.Native.Nat.{◌≤◌, ◌-◌}
 use lib.ListN.{take}
 use Rattle.node.specs.Starts.{live_from, row_of}
 use Rattle.node.proofs.Node.starts.Given as goal
 
 abbrev pub invariant-loop-k : goal.invariant-loop-k
-invariant-loop-k l = (l.k ≤ 16) × (l.row ≡ row_of (live_from 1 (take l.k l.self.processes)))
-
-abbrev pub decreases-loop-k : goal.decreases-loop-k
-decreases-loop-k l = 16 - l.k
+invariant-loop-k l = l.row ≡ row_of (live_from 1 (take l.k l.fn.self.processes))

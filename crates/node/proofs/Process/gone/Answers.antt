@@ -1,7 +1,8 @@
 -- `Process::gone` gives `gone`. Assumes nothing.
+use borrow.Author.Rules.{rules}
 use Rattle.node.specs.Processes.{gone}
 use Rattle.node.proofs.Process.gone.Goals as goal
 
 pub returns : goal.returns
 unfolding gone
-returns c = c.with_stage.ensures
+returns c = search rules

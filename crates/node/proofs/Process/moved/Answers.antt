@@ -1,8 +1,8 @@
 -- `Process::moved` gives `moved`. Assumes nothing.
+use borrow.Author.Rules.{rules}
 use Rattle.node.specs.Processes.{moved}
-use mathlib.Core.Path.{refl}
 use Rattle.node.proofs.Process.moved.Goals as goal
 
 pub returns : goal.returns
 unfolding moved
-returns c = refl
+returns c = search rules

@@ -1,5 +1,6 @@
 -- `Process::register` gives `register`: a number above 2 is none of 0, 1 and 2. Assumes nothing.
-use Rattle.node.proofs.Registers.{none_of_three}
+use native.Mathlib.Omega.{arith}
+use borrow.Author.Tests.{ne_eqb}
 use Rattle.node.specs.Processes.{register}
 use Rattle.node.proofs.Process.register.Goals as goal
 
@@ -17,6 +18,4 @@ returns-in-2 c = rw c.in-2.is
 
 pub returns-in_default : goal.returns-in_default
 unfolding register
-returns-in_default c =
-    let h = none_of_three c.args.r c.in_default.in_default-own.rest in
-    rw (h.0, h.1, h.2)
+returns-in_default c = rw (ne_eqb c.args.r 0 (omega arith), ne_eqb c.args.r 1 (omega arith), ne_eqb c.args.r 2 (omega arith))

@@ -1,8 +1,8 @@
 -- `Process::trapped` gives `trapped`. Assumes nothing.
+use borrow.Author.Rules.{rules}
 use Rattle.node.specs.Processes.{trapped}
-use mathlib.Core.Path.{refl}
 use Rattle.node.proofs.Process.trapped.Goals as goal
 
 pub returns : goal.returns
 unfolding trapped
-returns c = refl
+returns c = search rules

@@ -1,7 +1,8 @@
 -- `Process::unwatching` gives `unwatching`. Assumes nothing.
+use borrow.Author.Rules.{rules}
 use Rattle.node.specs.Processes.{unwatching}
 use Rattle.node.proofs.Process.unwatching.Goals as goal
 
 pub returns : goal.returns
 unfolding unwatching
-returns c = cc
+returns c = search rules

@@ -1,7 +1,7 @@
 -- `Kinds::noted` joins the digit of the clause's kind. Assumes nothing.
 use mathlib.Core.Path.{refl}
 use native.Mathlib.Omega.{arith}
-use Rattle.receive.proofs.KindSets.{value_below, noted_exact, noted_kind_lem, noted_past}
+use Rattle.receive.proofs.KindSets.{noted_exact, noted_kind_lem, noted_past}
 use Rattle.receive.proofs.Kinds.noted.Goals as goal
 
 pub returns-then-kind-eq-EXACT : goal.returns-then-kind-eq-EXACT

@@ -1,6 +1,5 @@
 -- `Kinds::takes` reads the digit of the message's kind. Assumes nothing.
-use native.Mathlib.Omega.{arith}
-use Rattle.receive.proofs.KindSets.{message_below, takes_at}
+use Rattle.receive.proofs.KindSets.{takes_at}
 use Rattle.receive.proofs.Kinds.takes.Goals as goal
 
 pub returns : goal.returns

@@ -1,34 +1,23 @@
 -- `running_sound` gives `running_told`: its tests are made in the same order. Assumes nothing.
 use mathlib.Core.Path.{sym, ◌∙◌}
 use Rattle.soundness.specs.Parts.{running_told}
-use borrow.Author.Tests.{le-ltb, lt-ltb}
+use Rattle.soundness.proofs.processes.running_sound.Goals.{then-within, else-within}
 use Rattle.soundness.proofs.processes.running_sound.Goals as goal
 
-pub returns-then-not-within : goal.returns-then-not-within
+pub returns-then-registers_sound : goal.returns-then-registers_sound
 unfolding running_told
-returns-then-not-within c = rw (sym c.within.ensures ∙ c.if-not-within.true)
+returns-then-registers_sound c =
+    let test = c.if-registers_sound.true in
+    elim c.if-within.branch [
+      | then-within w ↦ rw (sym c.within.ensures ∙ w.if-within.true, sym w.registers_sound.ensures ∙ sym w.value-is ∙ test, ← c.index.ensures) c.at_op_or_end.ensures
+      | else-within w ↦ let here = w.value-is in let past = w.if-within.false in cc
+    ]
 
-pub returns-then-not-registers_sound : goal.returns-then-not-registers_sound
+pub returns-else-registers_sound : goal.returns-else-registers_sound
 unfolding running_told
-returns-then-not-registers_sound c = rw (sym c.within.ensures ∙ c.if-not-within.false, sym c.registers_sound.ensures ∙ c.if-not-registers_sound.true)
-
-pub returns-then-len-p : goal.returns-then-len-p
-unfolding running_told
-returns-then-len-p c =
-    rw (
-      sym c.within.ensures ∙ c.if-not-within.false,
-      sym c.registers_sound.ensures ∙ c.if-not-registers_sound.false,
-      ← c.index.ensures,
-      le-ltb _ _ c.if-len-p.true,
-    )
-
-pub returns : goal.returns
-unfolding running_told
-returns c =
-    rw (
-      sym c.within.ensures ∙ c.if-not-within.false,
-      sym c.registers_sound.ensures ∙ c.if-not-registers_sound.false,
-      ← c.index.ensures,
-      lt-ltb _ _ c.if-len-p.false,
-      ← c.is_part.ensures,
-    )
+returns-else-registers_sound c =
+    let test = c.if-registers_sound.false in
+    elim c.if-within.branch [
+      | then-within w ↦ rw (sym c.within.ensures ∙ w.if-within.true, sym w.registers_sound.ensures ∙ sym w.value-is ∙ test) test
+      | else-within w ↦ rw (sym c.within.ensures ∙ w.if-within.false) (w.value-is ∙ w.if-within.false)
+    ]
