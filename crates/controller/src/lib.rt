@@ -15,6 +15,7 @@ use text::{put_byte, put_bytes, put_number, put_number_line};
 
 // What `play_and_list` tells of a play: how many steps were accepted, the refusal that ended it, if one did, the length of the listing, and the
 // node then.
+// A record with an `Option`, since a play that a refusal ends has a count, a listing and a node as well.
 #[derive(Clone, Copy)]
 pub struct PlayedListed {
     pub accepted: usize,

@@ -16,6 +16,7 @@
 --   mail_of, sent_of, born_of what becomes of the mailbox by a record, what it sends, and whom it brings to life
 --   effect_of i e           the effect that a record tells of process i
 --   answer_of late code i st e   the rules' answer that record e tells of process i, in state st and with its code: of a timeout if `late`
+--   named_by v              the process that value v names; 0 where it names none
 use Rattle.std.specs.Prelude.{Bool, true, false, cond, List, [], ℕ, eqb, get_or, set, replicate}
 use Rattle.std.proofs.Math.Option
 use Rattle.std.proofs.Math.Option.{Option, none, some}
@@ -25,6 +26,7 @@ use Rattle.node.specs.declared.Process.{Process}
 use Rattle.node.specs.declared.ProcessNumber.{ProcessNumber}
 use Rattle.node.specs.declared.Signal.{Signal}
 use Rattle.node.specs.declared.Signal.TheVariants.{Link}
+use Rattle.node.specs.declared.Value.{Value}
 use Rattle.node.specs.Mailboxes.{no_message}
 use Rattle.node.specs.Nodes.{no_op, no_process}
 use Rattle.node.specs.Processes.{fresh}
@@ -33,7 +35,7 @@ use Rattle.rules.specs.Answers.{Answer, refused, done, mailbox_empty, no_timeout
 use Rattle.rules.specs.Arrive.{arrives}
 use Rattle.rules.specs.Effects.{State, MailChange, unchanged, joining, leaving, Sending, Birth, Effect}
 use Rattle.rules.specs.Receive.{receives}
-use Rattle.rules.specs.Run.{runs, runs_op}
+use Rattle.rules.specs.Run.{process_in, runs, runs_op}
 use Rattle.rules.specs.Timeout.{expires_live}
 use Rattle.receive.specs.Waiting.{awaits}
 use Rattle.decisions.specs.Records.{Decision}
@@ -135,3 +137,6 @@ answer_of late code i st e =
     cond e.receives (cond late (expires_live code st) (receives code st (get_or code st.process.place no_op)))
     (cond (eqb e.refusal 0) (done (effect_of i e))
     (refused e.refusal))
+
+abbrev pub named_by : Value → ℕ
+named_by v = Option.get_or (process_in v) 0

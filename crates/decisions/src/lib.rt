@@ -108,7 +108,8 @@ pub fn run(i: ProcessNumber, p: Process, len: u8, op: Op) -> Result<Decision, Re
     }
 }
 
-// The op decides: by its number, an arm to each, which document 01 asks for. None refuses by itself: 25 to 29 are told by what is met.
+// The op decides: by its number, an arm to each, which document 01 asks for. None refuses by itself: 26, 27 and, at a recv, 25 and 29 are told by
+// what is met there.
 pub fn run_op(i: ProcessNumber, p: Process, op: Op) -> Decision
     ensures { told_by result ≡ ran_op i p op }
 {

@@ -84,6 +84,7 @@ impl Kinds {
 
 // The search of a mailbox that has `count` messages, from slot `first` on, by `clauses` clauses, from op `at` on; past the end of an array stand
 // none.
+// It takes whole arrays, as docs/PROMISES.md names it; `search_in` is lent the parts.
 pub fn search(
     slots: [Slot; 256],
     first: usize,
