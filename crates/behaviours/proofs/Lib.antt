@@ -2,3 +2,4 @@ pub mod Codes
 pub mod Clauses
 pub mod Operands
 pub mod Pass
+pub mod Passes

@@ -53,7 +53,7 @@ module _ {n : Node} {xs : List ℕ} where
           let z : singly m (map action_of (drop i xs)) ≡ 1 + singly r.node rest = rw (eq-eqb r.refusal 0 e) at turn in
           record { within = omega (arith, h); fewer = omega (arith, t.fewer); left = omega (arith, z, t.left) }
 
-      singly_same : (r.refusal ≡ 0 → ⊥) → Singly n xs r.node a (i + 1)
+      pub singly_same : (r.refusal ≡ 0 → ⊥) → Singly n xs r.node a (i + 1)
       singly_same e =
           let z : singly m (map action_of (drop i xs)) ≡ 0 + singly r.node rest = rw (ne_eqb r.refusal 0 e) at turn in
           record { within = omega (arith, h); fewer = omega (arith, t.fewer); left = omega (arith, z, t.left) }

@@ -35,6 +35,6 @@ fn of_sound(n: Node, i: usize) -> Option<usize>
     if !receive::awaits(p, n.lens[behaviour_index(p.behaviour)], op) {
         return None;
     }
-    let s = receive::search_in(&n.slots[16 * k..], n.waiting[k], &n.ops[x + 1..], op.small);
+    let s = receive::search(n.slots, 16 * k, n.waiting[k], n.ops, x + 1, op.small);
     Some(s.consulted)
 }

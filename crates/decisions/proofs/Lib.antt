@@ -1,3 +1,4 @@
+pub mod Before
 pub mod Laws
 pub mod Meanings
 pub mod Named

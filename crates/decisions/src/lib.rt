@@ -74,26 +74,20 @@ pub fn decide(
     run(s.owner, p, len, op)
 }
 
-// 26: the refusal of a decision that sends, to a receiver with so many signals in flight.
-#[tactic(auto, using(std::proofs::lemmas::Bool::Decides::nat_tests), unfolding(crate::specs::Decided::pair_refusal))]
-pub fn pair_refusal(sent: u8) -> Option<Refusal>
-    ensures { refusal_told result ≡ pair_refusal 0 sent }
+// 26: the refusal of a decision that sends, to a receiver with so many signals in flight; what refuses it already is told first.
+pub fn pair_refusal(refusal: Option<Refusal>, sent: u8) -> Option<Refusal>
+    ensures { refusal_told result ≡ pair_refusal (refusal_told refusal) sent }
 {
-    if 4 <= sent {
-        return Some(Refusal::PairFull);
-    }
-    None
+    let full = (4 <= sent).then_some(Refusal::PairFull);
+    refusal.or(full)
 }
 
-// 27: the refusal of a decision that brings to life a process which is `old` as yet.
-#[tactic(auto, using(std::proofs::lemmas::Bool::Decides::nat_tests), unfolding(crate::specs::Decided::birth_refusal))]
-pub fn birth_refusal(old: Process) -> Option<Refusal>
-    ensures { refusal_told result ≡ birth_refusal 0 old }
+// 27: the same of a decision that brings to life a process which is `old` as yet.
+pub fn birth_refusal(refusal: Option<Refusal>, old: Process) -> Option<Refusal>
+    ensures { refusal_told result ≡ birth_refusal (refusal_told refusal) old }
 {
-    if is_unborn(old) {
-        return None;
-    }
-    Some(Refusal::NotUnborn)
+    let taken = (!is_unborn(old)).then_some(Refusal::NotUnborn);
+    refusal.or(taken)
 }
 
 // A run of process i, whose code has len ops and which is at op.

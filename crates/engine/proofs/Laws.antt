@@ -43,13 +43,14 @@ module _ (l : List ℕ) (i : ℕ) (n : Node) where
       let z : i ≡ i + 0 = omega arith in
       ap (λ (x : ℕ). record { accepted = x; refusal = k; node = n }) z ∙ sym (v ∙ rw (next h, q))
 
-  pub more : {g : Outcome} → (m : Node) → i < length l → Sound n → Left g l i n → rule n (action_of (get_or l i 0)) ≡ done m → Sound m × Left g l (i + 1) m
+  pub more : {g : Outcome} → (m : Node) → i < length l → Sound n → Left g l i n → rule n (action_of (get_or l i 0)) ≡ done m
+      → (i + 1 ≤ length l) × Sound m × Left g l (i + 1) m
   unfolding played
   more m h s v r =
       let q : step n (action_of (get_or l i 0)) ≡ done m = step_rule n (action_of (get_or l i 0)) s ∙ r in
       let p = played m (drop (i + 1) (map action_of l)) in
       let z : i + (p.accepted + 1) ≡ i + 1 + p.accepted = omega arith in
-      (step_sound n m (action_of (get_or l i 0)) q, v ∙ rw (next h, q) (ap (λ (x : ℕ). record { accepted = x; refusal = p.refusal; node = p.node }) z))
+      (omega (arith, h), step_sound n m (action_of (get_or l i 0)) q, v ∙ rw (next h, q) (ap (λ (x : ℕ). record { accepted = x; refusal = p.refusal; node = p.node }) z))
 
   pub over : {g : Outcome} → length l ≤ i → Left g l i n → record { accepted = i; refusal = 0; node = n } ≡ g
   unfolding played

@@ -1,5 +1,6 @@
 -- What the answers of the engine mean in the rules of document 01.
 --   played_of r      the answer of a play: count, refusal and node
+--   stop_of r n      what the loop tells of a play, with the node that it was lent
 --   Stepped          what a step tells: its refusal, 0 if none, and the node behind it
 --   stepped_of n r   what the code's answer of a step of node n stands for: a refusal leaves the node
 --   stepped_by n a   the answer of a step of node n: a refusal leaves the node
@@ -16,11 +17,15 @@ use Rattle.rules.specs.Answers.{Answer, refused, done, not_sound}
 use Rattle.rules.specs.Steps.{Action, record_of}
 use Rattle.rules.specs.Steps as steps
 use Rattle.rules.specs.Suggest.{acceptable}
+use Rattle.engine.specs.declared.Stop.{Stop}
 use Rattle.engine.specs.declared.Played.{Played}
 use Rattle.soundness.specs.declared.NotSound.{NotSound}
 
 abbrev pub played_of : Played → steps.Outcome
 played_of r = record { accepted = r.accepted; refusal = refusal_told r.refusal; node = r.node }
+
+abbrev pub stop_of : Stop → Node → steps.Outcome
+stop_of r n = record { accepted = r.accepted; refusal = refusal_told r.refusal; node = n }
 
 pub record Stepped : Type 0 where
   pub node : Node

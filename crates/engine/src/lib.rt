@@ -1,5 +1,5 @@
-// The engine: a step, a schedule, and what to do next. One loop keeps the node in one local, reads and stores in place, and decides on small
-// values; it plays steps, or looks which of them would be accepted.
+// The engine: a step, a schedule, and what to do next. One loop is lent the node, reads and stores in place, and decides on small values; it
+// plays steps, or looks which of them would be accepted.
 #![tactic(auto)]
 
 ghost use Rattle.std.specs.Prelude.{true, false, map, ◌≡◌, ◌<◌, ◌+◌, ◌*◌, min};
@@ -9,7 +9,7 @@ ghost use Rattle.rules.specs.Answers.{done};
 ghost use Rattle.rules.specs.Nodes.{Sound};
 ghost use Rattle.rules.specs.Steps.{meaning, step, play, played};
 ghost use Rattle.rules.specs.Suggest.{possible, first_accepted, suggest};
-ghost use Rattle.engine.specs.Answers.{played_of, stepped_of, stepped_by, suggestion_of, recorded, first_of};
+ghost use Rattle.engine.specs.Answers.{played_of, stop_of, stepped_of, stepped_by, suggestion_of, recorded, first_of};
 
 use actions::{
     behaviour_index, decode, encode, op_index, possible_numbers, process_index, row_index, step_of,
@@ -27,6 +27,13 @@ pub struct Played {
     pub accepted: usize,
 }
 
+// What the loop tells of a play: the count and the refusal, if one ended it. The node then stands where the loop was lent it.
+#[derive(Clone, Copy)]
+struct Stop {
+    accepted: usize,
+    refusal: Option<Refusal>,
+}
+
 // The most steps of a schedule.
 pub const LONGEST: usize = 4096;
 
@@ -37,9 +44,9 @@ pub fn step(n: Node, s: Step) -> Result<Node, Refusal>
 {
     if soundness::sound(n) {
         let numbers = [encode(s)];
-        let r = core(n, &numbers, false);
-        return match r.refusal {
-            None => Ok(r.node),
+        let mut node = n;
+        return match core(&mut node, &numbers, false).refusal {
+            None => Ok(node),
             Some(refusal) => Err(refusal),
         };
     }
@@ -50,13 +57,19 @@ pub fn step(n: Node, s: Step) -> Result<Node, Refusal>
 pub fn play(n: Node, numbers: &[u32]) -> Played
     ensures { played_of result ≡ play n (map action_of numbers.now) }
 {
-    if soundness::sound(n) {
-        if LONGEST < numbers.len() {
-            return ended(0, Some(Refusal::ScheduleTooLong), n);
-        }
-        return core(n, numbers, false);
+    let mut node = n;
+    let stop = if !soundness::sound(n) {
+        ended(0, Some(Refusal::NotSound))
+    } else if LONGEST < numbers.len() {
+        ended(0, Some(Refusal::ScheduleTooLong))
+    } else {
+        core(&mut node, numbers, false)
+    };
+    Played {
+        node,
+        refusal: stop.refusal,
+        accepted: stop.accepted,
     }
-    ended(0, Some(Refusal::NotSound), n)
 }
 
 // The first step that the node would accept, or none where it would accept no step: by owner, its run, its timeout, then its arrivals by sender.
@@ -75,19 +88,16 @@ fn first_accepted(n: Node) -> Option<Step>
     ensures { suggestion_of (Ok result) ≡ recorded (done (first_accepted n possible)) }
 {
     let numbers = possible_numbers();
-    let r = core(n, &numbers, true);
+    let mut node = n;
+    let r = core(&mut node, &numbers, true);
     let number = numbers.get(r.accepted)?;
     Some(step_of(*number))
 }
 
-fn ended(accepted: usize, refusal: Option<Refusal>, node: Node) -> Played
-    ensures { played_of result ≡ record { accepted = accepted; refusal = refusal_told refusal; node = node } }
+fn ended(accepted: usize, refusal: Option<Refusal>) -> Stop
+    ensures { (n : Node) → stop_of result n ≡ record { accepted = accepted; refusal = refusal_told refusal; node = n } }
 {
-    Played {
-        accepted,
-        refusal,
-        node,
-    }
+    Stop { accepted, refusal }
 }
 
 // A count that a byte holds, at most `limit`.
@@ -116,13 +126,13 @@ fn cell_index(row: usize, sent: u8) -> usize
 }
 
 // The steps of a sound node, played until one is refused; or, where `looks` is set, looked at until one would be accepted, without a store.
-// It reads and stores in place, since handing the node to a function for each step would copy it; this is why it is long.
-fn core(n: Node, numbers: &[u32], looks: bool) -> Played
-    requires { Sound n }
-    ensures result_value { looks ≡ false → played_of result ≡ played n (map action_of numbers.now) }
-    ensures accepted_value { looks ≡ true → result.accepted ≡ first_of n (map action_of numbers.now) }
+// It reads and stores in place, since handing the node to a function for each step would copy it; this is why it is long. Where it only looks, what
+// becomes of the node is not told: its caller keeps another.
+fn core(node: &mut Node, numbers: &[u32], looks: bool) -> Stop
+    requires { Sound node.old }
+    ensures result_value { looks ≡ false → stop_of result node.new ≡ played node.old (map action_of numbers.now) }
+    ensures accepted_value { looks ≡ true → result.accepted ≡ first_of node.old (map action_of numbers.now) }
 {
-    let mut node = n;
     for t in 0..numbers.len() {
         let s = decode(numbers[t]);
         let k = s.at;
@@ -147,30 +157,33 @@ fn core(n: Node, numbers: &[u32], looks: bool) -> Played
                 if looks {
                     continue;
                 }
-                return ended(t, Some(refusal), node);
+                return ended(t, Some(refusal));
             }
         };
         let mut next = process;
         let first = 16 * k;
         let refused = match deed {
             Deed::Searches => {
-                let mail = &node.slots[first..];
-                let clauses = &node.ops[x + 1..];
-                let found = receive::search_in(mail, waiting, clauses, op.small).found;
+                let slots = &node.slots;
+                let ops = &node.ops;
+                let mail = &slots[first..];
+                let clauses = &ops[x + 1..];
+                let found = receive::first_fit(mail, waiting, clauses, op.small);
                 if s.expires {
                     let behind = node.ops[behind_clauses(x, op.small)];
                     next = p.moved(behind.target);
                     receive::timeout_refusal(found, p.place, op.small, node.lens[w], behind)
                 } else {
-                    if let Ok(fit) = found {
+                    if found.is_ok() {
                         if looks {
-                            return ended(t, None, node);
+                            return ended(t, None);
                         }
                         // Nothing is sent and nobody is brought to life: the message leaves, and the step is over.
                         node.processes[k] = receive::after_search(p, found);
                         node.waiting[k] = fallen(waiting);
-                        let from = first + fit.index;
-                        let top = first + up_to(waiting, 16);
+                        let count = up_to(waiting, 16);
+                        let from = first + receive::fit_index(found, count);
+                        let top = first + count;
                         for m in from + 1..top {
                             node.slots[m - 1] = node.slots[m];
                         }
@@ -181,11 +194,11 @@ fn core(n: Node, numbers: &[u32], looks: bool) -> Played
             }
             Deed::Sends(to, _) => {
                 let row = row_index(s.owner, to);
-                pair_refusal(node.counts[row])
+                pair_refusal(None, node.counts[row])
             }
             Deed::Spawns(number, _) => {
                 let child = process_index(number);
-                birth_refusal(node.processes[child])
+                birth_refusal(None, node.processes[child])
             }
             Deed::Joins(_) | Deed::Nothing => None,
         };
@@ -193,10 +206,10 @@ fn core(n: Node, numbers: &[u32], looks: bool) -> Played
             if looks {
                 continue;
             }
-            return ended(t, Some(refusal), node);
+            return ended(t, Some(refusal));
         }
         if looks {
-            return ended(t, None, node);
+            return ended(t, None);
         }
         node.processes[k] = next;
         match deed {
@@ -228,5 +241,5 @@ fn core(n: Node, numbers: &[u32], looks: bool) -> Played
             node.counts[r] = fallen(node.counts[r]);
         }
     }
-    ended(numbers.len(), None, node)
+    ended(numbers.len(), None)
 }

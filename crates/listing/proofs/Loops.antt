@@ -3,6 +3,7 @@
 --   mail_at n i row_at n i         the messages and the signals that are listed of them;  mail_size n i  how many messages
 --   processes_from n i             what is left to write of the processes, before the one at i;  pairs_from n i  of the pairs
 --   process_texts pair_texts       all of them are the two parts of the listing
+--   mail_count_lem                 as many messages are listed as are counted
 --   mail_text row_text             the texts of a mailbox and of a row are those of its first places
 --   left_process                   a turn of the loop over processes;  left_processes_end  its end
 --   left_pair left_no_pair         a turn of the loop over pairs, with and without signals;  left_pairs_end  its end
@@ -12,7 +13,7 @@ use mathlib.Core.Path.{◌≡◌, refl, sym, ◌∙◌, ap}
 use Prim.Native.Nat.{ℕ, ◌+◌, ◌-◌, ◌*◌, ◌/◌, ◌%◌, ◌≤◌, ◌<◌}
 use native.Mathlib.Nat.{zero-add}
 use native.Mathlib.Omega.{arith}
-use lib.ListN.{take, drop, get_or}
+use lib.ListN.{length, take, drop, get_or}
 use Rattle.node.proofs.Contents.{messages_length, signals_length}
 use Rattle.node.proofs.Lists.{firsts_length, firsts_get_d}
 use Rattle.node.specs.declared.Stage.TheVariants.{Unborn, Live, Closing, Gone}
@@ -34,7 +35,7 @@ use Rattle.rules.proofs.All.{rising_at}
 use Rattle.rules.specs.Nodes.{view, standing, standing_in}
 use Rattle.text.proofs.Writing.{Left, each_append, each_map, left_item, left_skip, left_end, ◌▸◌}
 use Rattle.text.specs.Writing.{Wrote, each}
-use Rattle.listing_lines.proofs.Laws.{standing_text_lem, pair_none, pair_some}
+use Rattle.listing_lines.proofs.Laws.{standing_text_lem, mail_length, pair_none, pair_some}
 use Rattle.listing_lines.specs.Lines.{each_from, message_line, mail_of, standing_lines, standing_text, signal_line, flight_line, pair_text}
 use Rattle.listing.specs.Listing.{rows_text}
 
@@ -113,6 +114,9 @@ at_first : (size i : ℕ) → i < size → get_or (rising 0 size) i 0 ≡ i
 at_first size i h = rising_at 0 size i 0 h ∙ zero-add i
 
 module _ (n : Node) (i : ℕ) where
+  pub mail_count_lem : length (mail_at n i) ≡ mail_size n i
+  mail_count_lem = mail_length (process_of n i) (messages (mail_block n i)) ∙ ap (mail_count (process_of n i).stage) (messages_length (mail_block n i))
+
   process_text : process_at n i ≡ standing_lines (i + 1) (standing (process_of n i) []) (get_or n.waiting i 0) ++ each message_line (mail_at n i)
   process_text =
       standing_text_lem (i + 1) (process_of n i) (messages (mail_block n i))

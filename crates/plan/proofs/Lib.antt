@@ -8,3 +8,5 @@ pub mod Examples
 pub mod Refusals
 pub mod Lines
 pub mod Told
+pub mod Rests
+pub mod Processes

@@ -24,9 +24,10 @@ use Rattle.text.proofs.Parts.{lines_at, lines_none, lines_rest, place_inside}
 use Rattle.placement.specs.Misplaced.{first_code, line_told, misplaced_from}
 use Rattle.plan_line.specs.Lines.{Start, behaviours_key, count_line}
 use Rattle.plan.specs.declared.fault.Refused.{Refused}
+use Rattle.plan.specs.declared.loading.Codes.{Codes}
 use Rattle.plan.specs.Faults.{fault_number}
 use Rattle.plan.specs.Rests.{mapped, told, read_told}
-use Rattle.plan.specs.Plans.{Loaded, Plan, text_too_long, ill_placed, more, code_lines, start_lines, plan_lines, node_of, misplaced, refused_load, checked}
+use Rattle.plan.specs.Plans.{Plan, text_too_long, ill_placed, more, code_lines, start_lines, plan_lines, node_of, misplaced, refused_load, checked}
 use Rattle.plan.specs.Plans.{loaded_from, load_of}
 use Rattle.plan.specs.Reading.{Left, Read, bad, good, on_line, then_on, times, nothing_in, end_of}
 use Rattle.plan.proofs.Loops.{mapped_bad, mapped_good}
@@ -83,7 +84,7 @@ unfolding codes_of code_in behaviours_of code_of
 codes_of_lem n = refl
 
 -- a refusal that a `?` hands on
-pub err_read : (r : Result Node Refused) (x : Refused) → IsErrAnd r (λ y. y ≡ x) → read_told r ≡ refused_load (fault_number x.fault) x.line
+pub err_read : (r : Result Codes Refused) (x : Refused) → IsErrAnd r (λ y. y ≡ x) → read_told r ≡ refused_load (fault_number x.fault) x.line
 err_read (Ok n) x h = absurd h
 err_read (Err y) x h = ap (λ (e : Refused). refused_load (fault_number e.fault) e.line) h
 

@@ -4,6 +4,7 @@
 --   at_line n r     what line n gave, its refusal with the number of the line
 --   told f r l      what a result stands for: a refusal, or what f makes of what was read, and what is left
 --   mapped f r      what is read, its result changed by f
+--   coded_node c    the node of what a plan says, without mail and signals
 --   read_told r     what the code's reading of a whole text says of its load
 --   refused_number o refused_line o   the number and the line of a load that is refused by o; 0 where there is no refusal
 --   loaded_told x   what a load tells by the code's answer
@@ -13,9 +14,10 @@ use Rattle.text.specs.Parts.{lines_of}
 use Rattle.plan_line.specs.declared.fault.LineFault.{LineFault}
 use Rattle.plan.specs.declared.fault.Refused.{Refused}
 use Rattle.plan.specs.declared.Loaded.{Loaded as Answered}
+use Rattle.plan.specs.declared.loading.Codes.{Codes}
 use Rattle.plan.specs.declared.rest.Rest.{Rest}
 use Rattle.plan.specs.Faults.{fault_number, fault_of}
-use Rattle.plan.specs.Plans.{Loaded, refused_load}
+use Rattle.plan.specs.Plans.{Loaded, refused_load, empty_node, remade}
 use Rattle.plan.specs.Reading.{Left, Read, bad, good}
 
 abbrev pub left_of : Rest → Left
@@ -36,8 +38,11 @@ unfoldable pub mapped : {A B : Type 0} → (A → B) → Read A → Read B
 mapped f (bad k n) = bad k n
 mapped f (good a l) = good (f a) l
 
-abbrev pub read_told : Result Node Refused → Loaded
-read_told (Ok n) = record { number = 0; line = 0; node = n }
+abbrev pub coded_node : Codes → Node
+coded_node c = remade empty_node c.count c.lens c.ops c.processes
+
+abbrev pub read_told : Result Codes Refused → Loaded
+read_told (Ok c) = record { number = 0; line = 0; node = coded_node c }
 read_told (Err e) = refused_load (fault_number e.fault) e.line
 
 abbrev pub refused_number : Option Refused → ℕ

@@ -2,7 +2,7 @@
 #![tactic(auto)]
 
 ghost use Rattle.std.specs.Prelude.{◌≡◌};
-ghost use Rattle.plan.specs.Plans.{load_of, empty_node};
+ghost use Rattle.plan.specs.Plans.{load_of};
 ghost use Rattle.plan.specs.Rests.{read_told, loaded_told};
 
 mod fault;
@@ -10,7 +10,7 @@ mod loading;
 mod rest;
 
 pub use fault::{Fault, Refused};
-use loading::Loading;
+use loading::{Codes, Loading};
 use node::Node;
 use rest::Rest;
 
@@ -26,20 +26,18 @@ pub struct Loaded {
 pub fn load(text: &[u8]) -> Loaded
     ensures { loaded_told result ≡ load_of text.now }
 {
-    match read(text) {
-        Ok(node) => Loaded {
-            refused: None,
-            node,
-        },
-        Err(refused) => Loaded {
-            refused: Some(refused),
-            node: Node::blank(),
-        },
+    let (refused, codes) = match read(text) {
+        Ok(codes) => (None, codes),
+        Err(refused) => (Some(refused), Codes::blank()),
+    };
+    Loaded {
+        refused,
+        node: codes.node(),
     }
 }
 
-// The node of a plan text, once the last line is read and every op is well placed.
-fn read(text: &[u8]) -> Result<Node, Refused>
+// What a plan text says of its node, once the last line is read and every op is well placed.
+fn read(text: &[u8]) -> Result<Codes, Refused>
     ensures { read_told result ≡ load_of text.now }
 {
     if 16384 < text.len() {
@@ -50,26 +48,16 @@ fn read(text: &[u8]) -> Result<Node, Refused>
     }
     let mut loading = Loading {
         rest: Rest { text, read: 0 },
-        node: empty_node(),
+        codes: Codes::none(),
     };
-    loading.plan()?;
-    match placement::misplaced(loading.node.count, loading.node.lens, loading.node.ops) {
+    // The answer has a name: a must-fail edit that changes it leaves the goals theirs.
+    let told = loading.plan();
+    told?;
+    match placement::misplaced(loading.codes.count, loading.codes.lens, loading.codes.ops) {
         Some(line) => Err(Refused {
             fault: Fault::IllPlaced,
             line,
         }),
-        None => Ok(loading.node),
+        None => Ok(loading.codes),
     }
-}
-
-// A node that says nothing yet: no behaviours, no processes. Its two fields are stored one by one: `..Node::blank()` copies the node once
-// more, and a short load then takes 2.0 µs in place of 1.2.
-#[tactic(auto, unfolding(node::specs::Nodes::blank_node))]
-fn empty_node() -> Node
-    ensures { result ≡ empty_node }
-{
-    let mut node = Node::blank();
-    node.count = 0;
-    node.lens = [0; 8];
-    node
 }

@@ -1,28 +1,84 @@
 // A plan as it is read.
 
 ghost use Rattle.std.specs.Prelude.{[], ◌≡◌, ◌+◌, ◌≤◌, ◌<◌};
+ghost use Rattle.node.specs.Nodes.{blank_node};
 ghost use Rattle.plan_line.specs.Lines.{op_line};
 ghost use Rattle.plan.specs.Plans.{more, node_of, plan_lines, code_lines, start_more, start_lines};
 ghost use Rattle.plan.specs.Plans.{empty_node, with_ops, with_code, with_start, with_each};
 ghost use Rattle.plan.specs.Reading.{on_line, times};
-ghost use Rattle.plan.specs.Rests.{left_of, mapped, told};
+ghost use Rattle.plan.specs.Rests.{coded_node, left_of, mapped, told};
 
 use crate::fault::Refused;
 use crate::rest::Rest;
-use node::{Node, Process, ProcessNumber, Value};
+use node::{Node, Op, Process, ProcessNumber, Value};
 
-// What is left of a plan text, and the node that has what was read: what a line says is stored where it stays.
+// What a plan says of its node: the ops, 32 places to a behaviour, the processes, the number of ops of each behaviour, and how many behaviours
+// there are. The node, of which most is mail and signals, is made of it once.
+#[derive(Clone, Copy)]
+pub(crate) struct Codes {
+    pub(crate) ops: [Op; 256],
+    pub(crate) processes: [Process; 16],
+    pub(crate) lens: [u8; 8],
+    pub(crate) count: u8,
+}
+
+impl Codes {
+    // A plan that says nothing yet: no behaviours, no processes.
+    pub(crate) fn none() -> Codes
+        ensures { coded_node result ≡ empty_node }
+    {
+        Codes {
+            ops: [Op::stop(); 256],
+            processes: [Process::unborn(); 16],
+            lens: [0; 8],
+            count: 0,
+        }
+    }
+
+    // What the blank node holds: one behaviour, `stop,0`, and no processes.
+    #[tactic(auto, unfolding(node::specs::Nodes::blank_node))]
+    pub(crate) fn blank() -> Codes
+        ensures { coded_node result ≡ blank_node }
+    {
+        Codes {
+            lens: [1, 0, 0, 0, 0, 0, 0, 0],
+            count: 1,
+            ..Codes::none()
+        }
+    }
+
+    // The node of a plan, without mail and signals. Its fields are stored one by one: `..Node::blank()` copies the node once more.
+    #[tactic(auto, unfolding(node::specs::Nodes::blank_node))]
+    pub(crate) fn node(&self) -> Node
+        ensures { result ≡ coded_node self.now }
+    {
+        let Codes {
+            ops,
+            processes,
+            lens,
+            count,
+        } = *self;
+        let mut node = Node::blank();
+        node.count = count;
+        node.lens = lens;
+        node.ops = ops;
+        node.processes = processes;
+        node
+    }
+}
+
+// What is left of a plan text, and what was read of it: what a line says is stored where it stays.
 #[derive(Drop)]
 pub(crate) struct Loading<'a> {
     pub(crate) rest: Rest<'a>,
-    pub(crate) node: Node,
+    pub(crate) codes: Codes,
 }
 
 impl<'a> Loading<'a> {
     // The lines of a plan.
     pub(crate) fn plan(&mut self) -> Result<(), Refused>
-        requires { self.old.node ≡ empty_node }
-        ensures { told (λ x. self.new.node) result (left_of self.new.rest) ≡ mapped node_of (plan_lines (left_of self.old.rest)) }
+        requires { coded_node self.old.codes ≡ empty_node }
+        ensures { told (λ x. coded_node self.new.codes) result (left_of self.new.rest) ≡ mapped node_of (plan_lines (left_of self.old.rest)) }
     {
         self.rest.header()?;
         let count = self.rest.count(b"behaviours=", 1, 8)?;
@@ -33,9 +89,9 @@ impl<'a> Loading<'a> {
 
     // The behaviours of a plan.
     fn codes(&mut self, count: u8) -> Result<(), Refused>
-        requires { self.old.node.count + count ≤ 8 }
-        ensures { told (λ x. self.new.node) result (left_of self.new.rest) ≡
-            mapped (with_each with_code self.old.node) (times count (more (code_lines count)) [] (left_of self.old.rest)) }
+        requires { self.old.codes.count + count ≤ 8 }
+        ensures { told (λ x. coded_node self.new.codes) result (left_of self.new.rest) ≡
+            mapped (with_each with_code (coded_node self.old.codes)) (times count (more (code_lines count)) [] (left_of self.old.rest)) }
     {
         for _ in 0..count {
             self.code(count)?;
@@ -45,26 +101,27 @@ impl<'a> Loading<'a> {
 
     // A behaviour, behind the others.
     fn code(&mut self, count: u8) -> Result<(), Refused>
-        requires { self.old.node.count < 8 }
-        ensures { told (λ x. self.new.node) result (left_of self.new.rest) ≡ mapped (with_code self.old.node) (code_lines count (left_of self.old.rest)) }
+        requires { self.old.codes.count < 8 }
+        ensures { told (λ x. coded_node self.new.codes) result (left_of self.new.rest) ≡
+            mapped (with_code (coded_node self.old.codes)) (code_lines count (left_of self.old.rest)) }
     {
         let len = self.rest.count(b"code=", 1, 32)?;
         self.ops(count, len)?;
-        self.node.count += 1;
+        self.codes.count += 1;
         Ok(())
     }
 
     // The ops of a behaviour with `len` ops, behind the others.
     fn ops(&mut self, count: u8, len: u8) -> Result<(), Refused>
-        requires first { self.old.node.count < 8 }
+        requires first { self.old.codes.count < 8 }
         requires few { len ≤ 32 }
-        ensures { told (λ x. self.new.node) result (left_of self.new.rest) ≡
-            mapped (with_ops self.old.node) (times len (more (on_line (op_line count len))) [] (left_of self.old.rest)) }
+        ensures { told (λ x. coded_node self.new.codes) result (left_of self.new.rest) ≡
+            mapped (with_ops (coded_node self.old.codes)) (times len (more (on_line (op_line count len))) [] (left_of self.old.rest)) }
     {
-        let b = self.node.count as usize;
-        self.node.lens[b] = len;
+        let b = self.codes.count as usize;
+        self.codes.lens[b] = len;
         for i in 0..len {
-            self.node.ops[b * 32 + (i as usize)] = self.rest.op(count, len)?;
+            self.codes.ops[b * 32 + (i as usize)] = self.rest.op(count, len)?;
         }
         Ok(())
     }
@@ -72,8 +129,8 @@ impl<'a> Loading<'a> {
     // The starts of a plan.
     #[tactic(auto, using(crate::proofs::Loops::reads), unfolding(crate::specs::Plans::start_lines))]
     fn starts(&mut self, count: u8) -> Result<(), Refused>
-        ensures { told (λ x. self.new.node) result (left_of self.new.rest) ≡
-            mapped (with_each with_start self.old.node) (start_lines count (left_of self.old.rest)) }
+        ensures { told (λ x. coded_node self.new.codes) result (left_of self.new.rest) ≡
+            mapped (with_each with_start (coded_node self.old.codes)) (start_lines count (left_of self.old.rest)) }
     {
         let len = self.rest.count(b"starts=", 1, 16)?;
         self.start_each(count, len)
@@ -81,13 +138,13 @@ impl<'a> Loading<'a> {
 
     // As many starts as `len` says.
     fn start_each(&mut self, count: u8, len: u8) -> Result<(), Refused>
-        ensures { told (λ x. self.new.node) result (left_of self.new.rest) ≡
-            mapped (with_each with_start self.old.node) (times len (start_more count) [] (left_of self.old.rest)) }
+        ensures { told (λ x. coded_node self.new.codes) result (left_of self.new.rest) ≡
+            mapped (with_each with_start (coded_node self.old.codes)) (times len (start_more count) [] (left_of self.old.rest)) }
     {
         let mut last = ProcessNumber(0);
         for _ in 0..len {
             let start = self.rest.start(count, last)?;
-            self.node.processes[start.process.index()] = Process::fresh(
+            self.codes.processes[start.process.index()] = Process::fresh(
                 start.behaviour,
                 Value::ZERO,
             );

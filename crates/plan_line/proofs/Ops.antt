@@ -43,6 +43,20 @@ module _ (w : List ℕ) (ws : List (List ℕ)) (small : So (all_of is_word ws)) 
   pub place_none : None ≡ word_number w → None ≡ found (index_of w ws) (length ws)
   place_none x = rw (← index_none w ws x small, le-ltb (length ws) (length ws) (omega arith))
 
+-- the words of the ops and of the clause kinds
+ops_words : So (all_of is_word op_words)
+ops_words = refl
+
+kinds_words : So (all_of is_word clause_words)
+kinds_words = refl
+
+module _ (w : List ℕ) {r k : ℕ} (x : Some r ≡ word_number w) where
+  pub op_place : k ≡ place_of r (map packed op_words) → k ≡ index_of w op_words
+  op_place e = e ∙ index_place w op_words x ops_words
+
+  pub kind_place : k ≡ place_of r (map packed clause_words) → k ≡ index_of w clause_words
+  kind_place e = e ∙ index_place w clause_words x kinds_words
+
 -- a place that was found, and one that was not
 pub found_at : {k : ℕ} (i n : ℕ) → Some k ≡ found i n → (k ≡ i) × (i < n)
 found_at {k} i n = go (ltb i n) refl
@@ -97,6 +111,12 @@ module _ (c n : ℕ) where
 
   kinds_none : (k i : ℕ) → get_or operand_counts k 0 ≤ i → drop i (kinds_of k) ≡ []
   kinds_none k i h = drop_of_length-le (kinds_of k) {i = i} (omega (arith, kinds_length k))
+
+  -- an operand more, whatever was read of it
+  module _ (k i : ℕ) (o : Coded) (ls : List (List ℕ)) {g : Coded} (inv : read_left o (drop i (kinds_of k)) ls ≡ g) where
+    pub operand_more : {kind : OperandKind} {field : List ℕ} {fs : List (List ℕ)} {x : ReadOperand} {p : Coded} → i < get_or operand_counts k 0
+        → ls ≡ field ∷ fs → kind ≡ operand_kind k i → x ≡ operand_of c n kind field → p ≡ with_joined o kind x → read_left p (drop (i + 1) (kinds_of k)) fs ≡ g
+    operand_more h el ek ex ep = rw (ep, ex, ek) (rw (kinds_at k i h, el) at inv)
 
   -- 11 stays, whatever follows
   left_malformed : (o : Coded) (kinds : List OperandKind) (ls : List (List ℕ)) → o.refusal ≡ malformed → (read_left o kinds ls).refusal ≡ malformed
@@ -168,11 +188,11 @@ module _ (c n : ℕ) where
           go true = refl
           go false = refl
 
-    pub operand_missing : i < get_or operand_counts k 0 → ls ≡ [] → refused malformed ≡ op g
-    operand_missing h el = ap op (rw (kinds_at k i h, el) at s.left)
+    pub operand_missing : {x : Coded} → i < get_or operand_counts k 0 → ls ≡ [] → x ≡ no_code → x ≡ g
+    operand_missing h el e = e ∙ rw (kinds_at k i h, el) at s.left
 
-    pub operand_surplus : {field : List ℕ} {fs : List (List ℕ)} → get_or operand_counts k 0 ≤ i → ls ≡ field ∷ fs → refused malformed ≡ op g
-    operand_surplus h el = ap op (rw (kinds_none k i h, el) at s.left)
+    pub operand_surplus : {field : List ℕ} {fs : List (List ℕ)} {x : Coded} → get_or operand_counts k 0 ≤ i → ls ≡ field ∷ fs → x ≡ no_code → x ≡ g
+    operand_surplus h el e = e ∙ rw (kinds_none k i h, el) at s.left
 
     module _ (h : get_or operand_counts k 0 ≤ i) (el : ls ≡ []) where
       last_left : s.coded ≡ g
@@ -191,9 +211,9 @@ fields_behind : (l : List ℕ) {e : ℕ} → e ≡ place_from (code ",") 0 l →
 fields_behind l {e} h = rw sub-zero at (behind_first l (omega arith) h)
 
 module _ (c n : ℕ) (l : List ℕ) {e : ℕ} (h : e ≡ place_from (code ",") 0 l) where
-  pub op_word : None ≡ found (index_of (take e l) op_words) (length op_words) → refused malformed ≡ op (coded_of c n (fields_of l))
+  pub op_word : {x : Coded} → None ≡ found (index_of (take e l) op_words) (length op_words) → x ≡ no_code → x ≡ coded_of c n (fields_of l)
   unfolding coded_of op_of
-  op_word q = rw (fields_behind l h, le-ltb _ op_count (found_none (index_of (take e l) op_words) (length op_words) q))
+  op_word q p = rw (fields_behind l h, le-ltb _ op_count (found_none (index_of (take e l) op_words) (length op_words) q)) p
 
   pub op_right : {k : ℕ} → Some k ≡ found (index_of (take e l) op_words) (length op_words) → op_of c n k (behind_field e l) ≡ coded_of c n (fields_of l)
   unfolding coded_of op_of

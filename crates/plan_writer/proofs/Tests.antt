@@ -1,6 +1,7 @@
 -- Laws of the test of a plan: a row of starts, one by one, and the whole. Assumes nothing.
 --   starts_counted           at the start of the loop every start is left
 --   rise_stop rise_more rise_end   a start that does not fit, one that does, and none left
+--   lent_count lent_start          how many starts are lent, and which they are
 --   plan_refused plan_tested       behaviours that are not sound, and the starts behind those that are
 --   codes_few codes_sound_lem starts_within code_within   what a plan that passes the test gives its writers
 use mathlib.Core.Bool.{Bool, true, false, So, ◌&&◌}
@@ -10,14 +11,14 @@ use Prim.Native.Nat.{ℕ, ◌+◌, ◌≤◌, ◌<◌}
 use native.Mathlib.Omega.{arith}
 use borrow.Author.Tests.{leb-true}
 use lib.Dec.{leb}
-use lib.ListN.{length, get_or, take, drop, drop_of_length-le}
+use lib.ListN.{length, get_or, take, drop, drop_of_length-le, length-take}
+use lib.Seq.{get_or-take}
 use Rattle.node.specs.declared.Behaviours.{Behaviours}
 use Rattle.node.specs.declared.Op.{Op}
 use Rattle.node.specs.declared.Starts.{Starts}
 use Rattle.node.specs.Lists.{all_of}
 use Rattle.node.specs.Starts.{no_start, starts_in}
-use Rattle.node.proofs.Lists.{firsts_length, firsts_take}
-use Rattle.node.specs.declared.Start.{Start}
+use Rattle.node.proofs.Lists.{firsts_get_d, firsts_length}
 use Rattle.rules.specs.Behaviours.{code_sound}
 use Rattle.rules.proofs.All.{parts, all_of_at}
 use Rattle.rules.proofs.Places.{code_short}
@@ -36,31 +37,24 @@ module _ (c : ℕ) (s : Starts) where
   pub starts_count : {t : Bool} → t ≡ (leb 1 s.count && leb s.count 16) → t ≡ false → false ≡ starts_sound c (starts_in s)
   starts_count is e = rw (starts_length s, sym is ∙ e)
 
-  -- the starts as the code lends them, those from k on being left
-  module _ (last k : ℕ) (few : s.count ≤ length s.list) where
-    abbrev lent : List Start
-    lent = take s.count s.list
-
+  module _ (last k : ℕ) where
     abbrev left : Bool
     left = starts_rise c last (drop k (starts_in s))
 
-    same : starts_in s ≡ lent
-    same = firsts_take no_start s.count s.list few
-
-    rise_here : k < length lent → left ≡ (start_fits c last (get_or lent k no_start) && starts_rise c (get_or lent k no_start).process.0 (drop (k + 1) (starts_in s)))
+    rise_here : k < s.count → left ≡ (start_fits c last (get_or s.list k no_start) && starts_rise c (get_or s.list k no_start).process.0 (drop (k + 1) (starts_in s)))
     unfolding starts_rise
-    rise_here h = rw (same, drop_next lent k no_start h)
+    rise_here h = rw (drop_next (starts_in s) k no_start (omega (arith, starts_length s)), firsts_get_d no_start s.count s.list k h)
 
-    module _ {g : Bool} (is : g ≡ starts_rise c last (drop k (starts_in s))) {t : Bool} (h : k < length lent) (fits : t ≡ start_fits c last (get_or lent k no_start)) where
+    module _ {g : Bool} (is : g ≡ starts_rise c last (drop k (starts_in s))) {t : Bool} (h : k < s.count) (fits : t ≡ start_fits c last (get_or s.list k no_start)) where
       pub rise_stop : t ≡ false → false ≡ g
       rise_stop e = sym (is ∙ rise_here h ∙ rw (sym fits ∙ e))
 
-      pub rise_more : t ≡ true → g ≡ starts_rise c (get_or lent k no_start).process.0 (drop (k + 1) (starts_in s))
+      pub rise_more : t ≡ true → g ≡ starts_rise c (get_or s.list k no_start).process.0 (drop (k + 1) (starts_in s))
       rise_more e = is ∙ rise_here h ∙ rw (sym fits ∙ e)
 
-    pub rise_end : {g : Bool} → g ≡ starts_rise c last (drop k (starts_in s)) → length lent ≤ k → true ≡ g
+    pub rise_end : {g : Bool} → g ≡ starts_rise c last (drop k (starts_in s)) → s.count ≤ k → true ≡ g
     unfolding starts_rise
-    rise_end is h = sym (is ∙ rw (same, drop_of_length-le lent {i = k} h))
+    rise_end is h = sym (is ∙ rw (drop_of_length-le (starts_in s) {i = k} (omega (arith, starts_length s))))
 
   -- where the count is right, the starts decide
   module _ {t : Bool} (is : t ≡ (leb 1 s.count && leb s.count 16)) (e : t ≡ true) where
@@ -69,6 +63,14 @@ module _ (c : ℕ) (s : Starts) where
 
     pub starts_few : s.count ≤ 16
     starts_few = leb-true s.count 16 (parts (leb 1 s.count) (leb s.count 16) (sym is ∙ e)).1
+
+-- the starts as the code lends them
+module _ (s : Starts) (few : s.count ≤ length s.list) where
+  pub lent_count : length (take s.count s.list) ≡ s.count
+  lent_count = length-take s.count s.list ∙ omega (arith, few)
+
+  pub lent_start : (k : ℕ) → k < s.count → get_or (take s.count s.list) k no_start ≡ get_or s.list k no_start
+  lent_start k h = get_or-take s.count s.list k no_start h
 
 -- ---- behaviours and starts
 

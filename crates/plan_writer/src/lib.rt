@@ -39,8 +39,10 @@ pub fn write_plan(behaviours: Behaviours, starts: Starts, out: &mut [u8]) -> Res
 pub fn plan_sound(behaviours: Behaviours, starts: Starts) -> bool
     ensures { result ≡ plan_sound (codes_of behaviours) (starts_in starts) }
 {
-    behaviours_sound(behaviours.count, behaviours.lens, behaviours.ops)
-        && starts_sound(starts, behaviours.count)
+    if !behaviours_sound(behaviours.count, behaviours.lens, behaviours.ops) {
+        return false;
+    }
+    starts_sound(starts, behaviours.count)
 }
 
 // 1 to 16 starts in range, rising, of a plan with `count` behaviours.

@@ -2,10 +2,10 @@
 -- over the clauses that are left; the count of what it consults, by the same turns; and its answer, by the first fit. Assumes nothing.
 use mathlib.Core.Bool.{true, false}
 use mathlib.Core.List.{List, [], ◌∷◌}
-use mathlib.Core.Option.{Option, some}
+use mathlib.Core.Option.{Option, none, some}
 use mathlib.Core.Path.{◌≡◌, refl, ◌∙◌, ap}
 use Prim.Native.Nat.{ℕ, zero, suc, ◌+◌, ◌-◌, ◌<◌, ◌≤◌, min}
-use native.Mathlib.Nat.{mul-le-mul_right}
+use native.Mathlib.Nat.{add-zero, mul-le-mul_right}
 use native.Mathlib.Numerals.{add-one}
 use native.Mathlib.Omega.{arith}
 use borrow.Author.Tests.{ne_eqb}
@@ -62,9 +62,16 @@ module _ (ms : List Message) (cs : List Op) (i : ℕ) (d : Message) {g : Option 
   pub message_turn : i < length ms → g ≡ search cs i (drop i ms) → g ≡ first_clause (drop 0 cs) i (get_or ms i d) (search cs (i + 1) (drop (i + 1) ms))
   message_turn h e = e ∙ rw (drop-cons ms i d h, add-one i)
 
+  -- none is left
+  pub message_end : length ms ≤ i → g ≡ search cs i (drop i ms) → g ≡ none
+  message_end h e = e ∙ rw (drop_of_length-le ms {i = i} h)
+
 module _ (cs : List Op) (i k : ℕ) (m : Message) (later : Option Fit) {g : Option Fit} where
   pub clause_hit : k < length cs → fits (get_or cs k no_op) m ≡ true → g ≡ first_clause (drop k cs) i m later → g ≡ some (record { index = i; message = m; clause = get_or cs k no_op })
   clause_hit h f e = e ∙ rw (drop-cons cs k no_op h, f)
+
+  pub clause_miss : k < length cs → fits (get_or cs k no_op) m ≡ false → g ≡ first_clause (drop k cs) i m later → g ≡ first_clause (drop (k + 1) cs) i m later
+  clause_miss h f e = e ∙ rw (drop-cons cs k no_op h, f, add-one k)
 
   pub clause_end : length cs ≤ k → g ≡ first_clause (drop k cs) i m later → g ≡ later
   clause_end h e = e ∙ rw (drop_of_length-le cs {i = k} h)
@@ -80,7 +87,16 @@ module _ (ms : List Message) (cs : List Op) (i : ℕ) (d : Message) (n : ℕ) {g
   pub count_left_out : i < length ms → one_can_take cs (message_kind (get_or ms i d)) ≡ false → g ≡ n + consulted cs (drop i ms) → g ≡ n + consulted cs (drop (i + 1) ms)
   count_left_out h t e = e ∙ rw (drop-cons ms i d h, t, add-one i)
 
+  pub count_over : length ms ≤ i → g ≡ n + consulted cs (drop i ms) → g ≡ n
+  count_over h e = e ∙ rw (drop_of_length-le ms {i = i} h) (add-zero n)
+
 module _ (cs : List Op) (k : ℕ) (m : Message) (later n : ℕ) {g : ℕ} where
+  pub count_hit : k < length cs → fits (get_or cs k no_op) m ≡ true → g ≡ n + tried (drop k cs) m later → g ≡ n + 1
+  count_hit h f e = e ∙ rw (drop-cons cs k no_op h, f)
+
+  pub count_miss : k < length cs → fits (get_or cs k no_op) m ≡ false → g ≡ n + tried (drop k cs) m later → g ≡ n + 1 + tried (drop (k + 1) cs) m later
+  count_miss h f e = e ∙ rw (drop-cons cs k no_op h, f, add-one k) (omega arith)
+
   pub count_end : length cs ≤ k → g ≡ n + tried (drop k cs) m later → g ≡ n + later
   count_end h e = e ∙ rw (drop_of_length-le cs {i = k} h)
 

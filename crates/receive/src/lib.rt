@@ -2,7 +2,7 @@
 // up. Messages and clauses are lent where they stand; all that follows is told by the answer, here.
 #![tactic(auto)]
 
-ghost use Rattle.std.specs.Prelude.{IfOk, ◌<◌, ◌&&◌, ◌≡◌, eqb, ltb, ◌≤◌, ◌-◌, min, take, drop};
+ghost use Rattle.std.specs.Prelude.{true, IfOk, ◌<◌, ◌&&◌, ◌≡◌, eqb, ltb, ◌≤◌, ◌-◌, min, take, drop};
 ghost use Rattle.node.specs.Ops.{recv_op};
 ghost use Rattle.node.specs.Processes.{moved};
 ghost use Rattle.node.specs.Refusals.{refusal_told};
@@ -104,11 +104,28 @@ pub fn search(
     )
 }
 
-// The same where the messages stand first in `slots` and the clauses first in `ops`. First the kinds that the clauses can take are noted; then
-// clauses are consulted for messages of those kinds only.
+// The same where the messages stand first in `slots` and the clauses first in `ops`.
 pub fn search_in(slots: &[Slot], count: u8, ops: &[Op], clauses: u8) -> Searched
     ensures answer { found_of result.found ≡ searched_in (clauses_in ops.now 0 clauses) (mail_in slots.now 0 count) }
     ensures count { result.consulted ≡ consulted (clauses_in ops.now 0 clauses) (mail_in slots.now 0 count) }
+    ensures within { IfOk result.found (λ f. f.index < count) }
+{
+    search_by::<true>(slots, count, ops, clauses)
+}
+
+// The answer alone: nothing is counted, since no step asks for the count.
+pub fn first_fit(slots: &[Slot], count: u8, ops: &[Op], clauses: u8) -> Result<Fit, NoFit>
+    ensures answer { found_of result ≡ searched_in (clauses_in ops.now 0 clauses) (mail_in slots.now 0 count) }
+    ensures within { IfOk result (λ f. f.index < count) }
+{
+    search_by::<false>(slots, count, ops, clauses).found
+}
+
+// First the kinds that the clauses can take are noted; then clauses are consulted for messages of those kinds only. How many are consulted is
+// told where COUNTS is set.
+fn search_by<const COUNTS: bool>(slots: &[Slot], count: u8, ops: &[Op], clauses: u8) -> Searched
+    ensures answer { found_of result.found ≡ searched_in (clauses_in ops.now 0 clauses) (mail_in slots.now 0 count) }
+    ensures count { COUNTS ≡ true → result.consulted ≡ consulted (clauses_in ops.now 0 clauses) (mail_in slots.now 0 count) }
     ensures within { IfOk result.found (λ f. f.index < count) }
 {
     let mail = &slots[..slots.len().min(count as usize)];
@@ -122,16 +139,20 @@ pub fn search_in(slots: &[Slot], count: u8, ops: &[Op], clauses: u8) -> Searched
         if kinds.takes(message) {
             for (k, clause) in clauses.iter().enumerate() {
                 if fits(*clause, message) {
-                    consulted += k + 1;
                     found = Ok(Fit {
                         index,
                         clause: *clause,
                         message,
                     });
+                    if COUNTS {
+                        consulted += k + 1;
+                    }
                     break 'messages;
                 }
             }
-            consulted += clauses.len();
+            if COUNTS {
+                consulted += clauses.len();
+            }
         }
     }
     Searched { found, consulted }

@@ -5,8 +5,8 @@ ghost use Rattle.std.specs.Prelude.{◌≡◌, ◌≤◌, length, take};
 // The steps of an accepted text, each as its number (`actions::encode`). There are `count` of them; the entries behind the last are 0.
 #[derive(Clone, Copy)]
 pub struct Schedule {
-    pub(crate) count: usize,
-    pub(crate) steps: [u32; 4096],
+    pub count: usize,
+    pub steps: [u32; 4096],
     ghost room: { count ≤ 4096 },
 }
 

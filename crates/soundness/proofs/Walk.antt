@@ -4,22 +4,26 @@
 --   block_sound b k       block k passes: a test of its own, no more elements than it has room for, and the test of each
 --   Due b rest g k        what the loop keeps: the tests of the blocks from k on, and then `rest`, give g
 --   lent b k              what block k holds, as code lends it
---   skips                 blocks without elements, passed over
-use mathlib.Core.Bool.{Bool, true, false, ◌&&◌, and-false}
+--   Within b rest g k m   inside a block: the tests of the elements of block k from m on, of the blocks behind it, and then `rest`, give g
+--   element               the m-th element of a block, where it stands in the cells;  begins, more  none of its elements was looked at, one more
+--   skips                 blocks without elements, passed over;  due_then within_then  what is left of what was left
+use mathlib.Core.Bool.{Bool, true, false, ◌&&◌, and_assoc, and-false}
 use mathlib.Core.List.{List, [], ◌∷◌, map}
 use mathlib.Core.Path.{◌≡◌, refl, sym, ◌∙◌, ap}
 use Prim.Native.Nat.{ℕ, ◌+◌, ◌-◌, ◌*◌, zero, suc, ◌≤◌, ◌<◌}
 use native.Mathlib.Nat.{add-zero}
+use native.Mathlib.Numerals.{add-one}
 use native.Mathlib.Omega.{arith}
 use borrow.Author.Tests.{le-leb, lt-leb, ltb-true, ltb-false}
 use lib.Dec.{leb, ltb}
-use lib.ListN.{length, take, drop, length-take, length-drop}
+use lib.ListN.{length, get_or, take, drop, length-take, length-drop}
+use lib.Seq.{drop-cons, get_or-drop, get_or-take}
 use Rattle.std.specs.List.{AllPass}
 use Rattle.std.specs.Prelude.{◌↔◌, IsTrue}
 use Rattle.std.proofs.lemmas.Bool.Decides.{Decides-by_and, same_from_decides}
 use Rattle.std.proofs.lemmas.List.{take-take}
 use Rattle.node.specs.Lists.{all_of, firsts, rising}
-use Rattle.node.proofs.Lists.{firsts_take, held_length}
+use Rattle.node.proofs.Lists.{firsts_take, held_at, held_length}
 
 pub record Blocks (C A : Type 0) : Type 0 where
   pub number : ℕ
@@ -52,8 +56,16 @@ module _ {C A : Type 0} (b : Blocks C A) where
   pub record Due (rest g : Bool) (k : ℕ) : Type 0 where
     pub gives : g ≡ (behind k && rest)
 
+  pub record Within (rest g : Bool) (k m : ℕ) : Type 0 where
+    pub gives : g ≡ (all_of (b.test k) (drop m (elements k)) && (behind (k + 1) && rest))
+
   size : (k : ℕ) → length (elements k) ≡ b.count k
   size k = held_length b.read b.blank (b.count k) (take b.width (drop (b.width * k) b.cells))
+
+  element : (k m : ℕ) → m < b.count k → b.count k ≤ b.width → get_or (elements k) m (b.read b.blank) ≡ b.read (get_or b.cells (b.width * k + m) b.blank)
+  element k m h g =
+      held_at b.read b.blank (b.count k) (take b.width (drop (b.width * k) b.cells)) m h
+      ∙ ap b.read (get_or-take b.width (drop (b.width * k) b.cells) m b.blank (omega arith) ∙ get_or-drop (b.width * k) b.cells m b.blank)
 
   -- what block k holds, as it is lent by m, the count of its elements
   abbrev pub lent : ℕ → ℕ → List C
@@ -94,6 +106,10 @@ module _ {C A : Type 0} (b : Blocks C A) where
       unfolding block_sound
       long_stop e = block_stop (rw (size k, lt-leb (b.count k) b.width e, and-false))
 
+      pub begins : b.own k ≡ true → b.count k ≤ b.width → Within rest g k 0
+      unfolding block_sound
+      begins e f = record { gives = v.gives ∙ rw (rising_more k b.number h, e, size k, le-leb (b.count k) b.width f) (and_assoc (all_of (b.test k) (elements k)) (behind (k + 1)) rest) }
+
       block_more : block_sound k ≡ true → Due rest g (k + 1)
       block_more e = record { gives = v.gives ∙ rw (rising_more k b.number h, e) }
 
@@ -110,6 +126,21 @@ module _ {C A : Type 0} (b : Blocks C A) where
         pub next : b.own k ≡ true → r ≡ true → Due rest g (k + 1)
         unfolding block_sound
         next o e = let less : b.count k ≤ b.width = omega arith in block_more (rw (o, size k, le-leb (b.count k) b.width less, held k m counted f room, sym (passes k m counted told) ∙ e))
+
+    -- element m of block k
+    module _ (k m : ℕ) (f : b.count k ≤ b.width) (v : Within rest g k m) (h : m < b.count k) where
+      inside : m < length (elements k)
+      inside = rw (size k) h
+
+      pub more : b.test k (b.read (get_or b.cells (b.width * k + m) b.blank)) ≡ true → Within rest g k (m + 1)
+      more e = record { gives = v.gives ∙ rw (drop-cons (elements k) m (b.read b.blank) inside, element k m h f, e, add-one m) }
+
+    -- what is left behind block k, on the way from where g was left
+    pub due_then : {k r : ℕ} → Due rest g k → Due rest (behind k && rest) r → Due rest g r
+    due_then v w = record { gives = v.gives ∙ w.gives }
+
+    pub within_then : {k m : ℕ} → Due rest g k → Within rest (behind k && rest) k m → Within rest g k m
+    within_then v w = record { gives = v.gives ∙ w.gives }
 
     -- a block without elements, and several of them
     skip : (k : ℕ) → b.own k ≡ true → b.count k ≡ 0 → Due rest g k → Due rest g (k + 1)

@@ -89,20 +89,20 @@ module _ (s : List ℕ) where
 
   module _ (hz : equal s (bytes "-0") ≡ false) where
     module _ (hm : starts_with (bytes "-") s ≡ true) where
-      number_minus : {n : ℕ} → Some n ≡ natural_of (unsigned_form (drop 1 s)) (drop 1 s) → done (record { minus = true; value = n }) ≡ number_of s
+      pub number_minus : {n : ℕ} → Some n ≡ natural_of (unsigned_form (drop 1 s)) (drop 1 s) → done (record { minus = true; value = n }) ≡ number_of s
       unfolding number_of number_form number_value unsigned negative
       number_minus h = let q = natural_good (unsigned_form (drop 1 s)) (drop 1 s) h in simp (hz, hm, ← q.0, q.1)
 
-      number_minus_bad : None ≡ natural_of (unsigned_form (drop 1 s)) (drop 1 s) → refused malformed ≡ number_of s
+      pub number_minus_bad : None ≡ natural_of (unsigned_form (drop 1 s)) (drop 1 s) → refused malformed ≡ number_of s
       unfolding number_of number_form unsigned negative
       number_minus_bad h = let q = natural_bad (unsigned_form (drop 1 s)) (drop 1 s) h in simp (hz, hm, ← q)
 
     module _ (hm : starts_with (bytes "-") s ≡ false) where
-      number_plus : {n : ℕ} → Some n ≡ natural_of (unsigned_form s) s → done (record { minus = false; value = n }) ≡ number_of s
+      pub number_plus : {n : ℕ} → Some n ≡ natural_of (unsigned_form s) s → done (record { minus = false; value = n }) ≡ number_of s
       unfolding number_of number_form number_value unsigned negative
       number_plus h = let q = natural_good (unsigned_form s) s h in simp (hz, hm, ← q.0, q.1)
 
-      number_plus_bad : None ≡ natural_of (unsigned_form s) s → refused malformed ≡ number_of s
+      pub number_plus_bad : None ≡ natural_of (unsigned_form s) s → refused malformed ≡ number_of s
       unfolding number_of number_form unsigned negative
       number_plus_bad h = let q = natural_bad (unsigned_form s) s h in simp (hz, hm, ← q)
 

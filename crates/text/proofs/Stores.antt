@@ -50,13 +50,14 @@ sets_behind l i (b ∷ s) j a h = ap (λ (r : List ℕ). sets r (suc i) s) (set_
 pub record Front (old : List ℕ) (n : ℕ) (now : List ℕ) (k m : ℕ) : Type 0 where
   pub bytes : sets now 0 (digits m) ≡ sets old 0 (digits n)
   pub width : k ≡ length (digits m)
+  pub few : k ≤ length (digits n)
   pub same : length now ≡ length old
 
 pub front_all : (o : List ℕ) (n : ℕ) → length o ≡ length (digits n) → Front o n o (length o) n
-front_all o n w = record { bytes = refl; width = w; same = refl }
+front_all o n w = record { bytes = refl; width = w; few = omega (arith, w); same = refl }
 
 module _ {o : List ℕ} {n : ℕ} {l : List ℕ} {k m : ℕ} (p : Front o n l k m) where
-  front_wide : 10 ≤ m → k ≡ length (digits (m / 10)) + 1
+  pub front_wide : 10 ≤ m → k ≡ length (digits (m / 10)) + 1
   front_wide h = p.width ∙ ap length (digits_more m h) ∙ length-append (digits (m / 10)) ((code "0" + m % 10) ∷ [])
 
   front_many : 1 < k → 10 ≤ m
@@ -74,6 +75,7 @@ module _ {o : List ℕ} {n : ℕ} {l : List ℕ} {k m : ℕ} (p : Front o n l k 
             ∙ ap (λ (j : ℕ). set (sets l 0 (digits (m / 10))) j (code "0" + m % 10)) (is ∙ sym (zero-add (length (digits (m / 10)))))
             ∙ sym (sets_append l 0 (digits (m / 10)) ((code "0" + m % 10) ∷ [])) ∙ ap (sets l 0) (sym (digits_more m h)) ∙ p.bytes;
         width = is;
+        few = omega (arith, p.few);
         same = length-set l (k - 1) (code "0" + m % 10) ∙ p.same;
       }
 

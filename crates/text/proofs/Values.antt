@@ -3,12 +3,12 @@ use mathlib.Core.Bool.{Bool, true, false, cond}
 use mathlib.Core.List.{List, [], ◌∷◌}
 use mathlib.Core.Path.{◌≡◌, refl}
 use Prim.Native.Char.{code}
-use Prim.Native.Nat.{ℕ, zero, suc}
+use Prim.Native.Nat.{ℕ, zero, suc, ◌-◌}
 use native.Mathlib.Omega.{arith}
 use borrow.Author.Tests.{le-leb, leb-true, ne_eqb}
 use lib.Dec.{leb}
 use lib.IntN.{ℤ, pos, negsuc}
-use lib.ListN.{length}
+use lib.ListN.{length, take, drop, get_or}
 use mir.Syntax.{w32}
 use mir.Val.{SFits}
 use Rattle.node.specs.declared.Value.TheVariants.{Int}
@@ -21,8 +21,9 @@ use Rattle.text.specs.declared.Number.{Number}
 use Rattle.text.specs.declared.Number.TheVariants.{Plus, Minus}
 use Rattle.text.specs.Numbers.{malformed, out_of_range, Signed, Ranged, no_number}
 use Rattle.text.specs.Results.{fault_number, signed_of, amount, value_answer}
-use Rattle.text.specs.Values.{read_as, no_value, plus_of, minus_of, int_of, ranged_value, by_letter, value_of, letter_of, number_text, value_text}
+use Rattle.text.specs.Values.{Parsed, read_as, no_value, plus_of, minus_of, int_of, ranged_value, by_letter, value_of, letter_of, number_text, value_text}
 use Rattle.text.specs.Writing.{Wrote}
+use Rattle.text.proofs.Parts.{tail_part}
 use Rattle.text.proofs.Writing.{wrote_then}
 
 -- ---- integers
@@ -54,14 +55,20 @@ module _ (n : Number) {z : ℤ} (is : z ≡ amount n) where
           near false e = refl
 
 -- ---- the letter
-pub value_none : (s : List ℕ) → length s ≡ 0 → refused malformed ≡ value_answer (value_of s)
+pub value_none : (s : List ℕ) {r : Parsed} → length s ≡ 0 → r ≡ no_value malformed → r ≡ value_of s
 unfolding value_of
-value_none [] h = refl
-value_none (b ∷ l) h = let no : ⊥ = omega arith in absurd no
+value_none [] h e = e
+value_none (b ∷ l) h e = let no : ⊥ = omega arith in absurd no
 
 pub value_led : (s : List ℕ) {b : ℕ} {l : List ℕ} {r : Answer Value} → IsFirstAndRest s b l → r ≡ value_answer (by_letter b l) → r ≡ value_answer (value_of s)
 unfolding value_of
 value_led s h e = rw h.0 e
+
+-- the letter at the start of a text, and what follows it as a slice
+pub value_by_letter : (s : List ℕ) {r : Parsed} → (length s ≡ 0 → ⊥) → r ≡ by_letter (get_or s 0 0) (take (length s - 1) (drop 1 s)) → r ≡ value_of s
+unfolding value_of
+value_by_letter [] h e = absurd (h refl)
+value_by_letter (b ∷ l) h e = rw (tail_part (b ∷ l) 1) at e
 
 pub value_other : {b : ℕ} (l : List ℕ) → (b ≡ code "i" → ⊥) → (b ≡ code "a" → ⊥) → (b ≡ code "p" → ⊥) → refused malformed ≡ value_answer (by_letter b l)
 unfolding by_letter

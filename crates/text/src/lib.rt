@@ -151,10 +151,10 @@ pub fn put_bytes(out: &mut [u8], at: usize, s: &[u8]) -> usize
 {
     let end = at.saturating_add(s.len());
     if end <= out.len() {
-        out[at..end].copy_from_slice(s);
+        store(&mut out[at..end], s);
     } else if at < out.len() {
         let n = out.len() - at;
-        out[at..].copy_from_slice(&s[..n]);
+        store(&mut out[at..], &s[..n]);
     }
     end
 }
@@ -204,6 +204,17 @@ pub fn put_number_line(out: &mut [u8], at: usize, key: &[u8], n: u64) -> usize
     let e = put_bytes(out, at, key);
     let e = put_number(out, e, n);
     put_byte(out, e, b'\n')
+}
+
+// A text into as many bytes as it has. The library's copy would ask a program in C for `memmove`. The loop goes over the text: of a key its
+// length is known where it is written, so that it is a move of a few words there.
+fn store(places: &mut [u8], s: &[u8])
+    requires { length places.old ≡ length s.now }
+    ensures { places.new ≡ s.now }
+{
+    for (k, b) in s.iter().enumerate() {
+        places[k] = *b;
+    }
 }
 
 // How many digits a number has.

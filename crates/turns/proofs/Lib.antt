@@ -1,4 +1,5 @@
 pub mod Changes
+pub mod Looking
 pub mod Recv
 pub mod Stores
 pub mod Turns

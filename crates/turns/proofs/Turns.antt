@@ -557,7 +557,7 @@ module _ (n : Node) (sound : Sound n) {a : Action} (t : Decoded) (m : Means a t)
       unfolding Early
       only_searches = ⊎_elim (λ w. absurd (false≢true (sym w.1 ∙ h))) (λ w. (w.only h).0) (verdict e says)
 
-      turn_searching : Cleared
+      pub turn_searching : Cleared
       turn_searching = record { refusal = only_searches.0; room = λ y. absurd (false≢true (sym only_searches.2 ∙ y)); free = λ x y. absurd (false≢true (sym only_searches.3 ∙ y)) }
 
       pub told_as_it_is : (r : ℕ) → birth_told (pair_told r) ≡ r

@@ -1,5 +1,5 @@
 -- The loop of the engine. What a turn knows is named once, at the places of the walk where it is learnt. Assumes nothing.
-use mathlib.Core.Bool.{Bool, true, false, cond}
+use mathlib.Core.Bool.{Bool, true, false, cond, false≢true}
 use mathlib.Core.List.{List, map}
 use mathlib.Core.Logic.{inl, ⊎_elim}
 use mathlib.Core.Path.{◌≡◌, refl, sym, ◌∙◌, ap, subst}
@@ -19,7 +19,9 @@ use Rattle.receive.specs.declared.NoFit.{NoFit}
 use Rattle.receive.specs.declared.NoFit.TheVariants.{Silent, Unfit}
 use Rattle.receive.specs.Found.{found_of, after_search, fit_index, clauses_in, mail_in, searched_in}
 use Rattle.receive.specs.Waiting.{timeout_refusal}
-use Rattle.receive.proofs.Laws.{part_behind}
+use Rattle.receive.proofs.Answered.{so_far_index}
+use Rattle.receive.proofs.Laws.{part_behind, so_far}
+use Rattle.node.specs.declared.Message.{Message}
 use Rattle.node.specs.declared.Node.{Node}
 use Rattle.node.specs.declared.Op.{Op}
 use Rattle.node.specs.declared.Process.{Process}
@@ -36,19 +38,20 @@ use Rattle.node.specs.Values.{pid}
 use Rattle.node.specs.declared.Refusal.{Refusal}
 use Rattle.rules.proofs.Commits.{parts_of}
 use Rattle.rules.specs.Nodes.{Sound}
-use Rattle.rules.specs.Receive.{Searched, search_number}
+use Rattle.rules.specs.Receive.{Searched, search_number, fits, fit as hit}
 use Rattle.rules.specs.Answers.{refused, done}
 use Rattle.rules.specs.Steps.{Action, Outcome, rule}
 use Rattle.turns.proofs.Changes.{cell_at, searched_of}
-use Rattle.engine.proofs.Laws.{Going, stop, more, over, look_more, look_stop, with_slots, with_cells}
-use Rattle.std.specs.Prelude.{Result, Ok, Err, Some}
+use Rattle.engine.proofs.Laws.{Going, stop, more, over, look_more, look_stop, look_over, with_slots, with_cells}
+use Rattle.std.specs.Prelude.{Result, Ok, Err, Some, is_ok, IfOk}
+use Rattle.turns.proofs.Looking.{AtMessage, AtClause, search_hit, search_over}
 use Rattle.turns.proofs.Stores.{Moved, moved_more, moved_end}
-use Rattle.turns.proofs.Turns.{place_at, behind_op, P, C, X, W, S, Says, top}
+use Rattle.turns.proofs.Turns.{place_at, behind_op, P, O, C, X, W, S, Says, top, turn_searching, waiting_bound}
 use Rattle.turns.proofs.Turns.{own_refused, search_is, run_searched, timeout_searched, unsought, mail_joined, mail_kept, flight_sent, flight_kept}
 use Rattle.turns.proofs.Turns.{Verdict, Committed, received, made, stored_mail, stored_flight, stored_cells, stored_run, stored_birth, stored_arrival}
 use Rattle.engine.proofs.core.Goals as goal
-use Rattle.engine.proofs.core.Goals.{After-decide, In-Err, In-Ok, In-Ok-found, Joined-deed, Joined-deed-2}
-use Rattle.engine.proofs.core.Goals.{in-Searches+then-s, in-Searches+else-s+in_default, in-Sends, in-Spawns, in-Joins}
+use Rattle.engine.proofs.core.Goals.{After-decide, In-Err, In-Ok, After-first_fit-found, Then-is_ok, Joined-deed, Joined-deed-2}
+use Rattle.engine.proofs.core.Goals.{in-Searches+then-s, in-Searches+else-s+else-is_ok, in-Sends, in-Spawns, in-Joins}
 use Rattle.engine.proofs.core.Goals.{in-Joins-deed, in-Sends-deed, in-Searches-deed, then-s-2+else-loop-f-test, else-s-2}
 
 -- ---- a turn whose step is decided
@@ -63,7 +66,7 @@ module _ (c : Turn) where
   looks = c.args.looks
 
   abbrev n₀ : Node
-  n₀ = c.args.n
+  n₀ = c.args.node.now
 
   abbrev count : ℕ
   count = c.loop-t.t
@@ -92,8 +95,14 @@ module _ (c : Turn) where
   abbrev x : ℕ
   x = c.op_index-x.result
 
+  abbrev behind_recv : ℕ
+  behind_recv = place_at N (P N N-sound T T-means) + 1
+
   abbrev waits : ℕ
   waits = W N N-sound T T-means
+
+  abbrev clauses : ℕ
+  clauses = (O N N-sound T T-means).small
 
   x_is : x ≡ place_at N (P N N-sound T T-means)
   x_is = c.op_index-x.ensures.value
@@ -101,11 +110,15 @@ module _ (c : Turn) where
   len_is : c.behaviour_index-w.result ≡ behaviour_at (P N N-sound T T-means).behaviour.0
   len_is = c.behaviour_index-w.ensures.value
 
-  -- the op that is read behind the clauses of a recv
+  -- where the clauses of a recv end
+  end_is : (r : ℕ) → r ≡ min (x + 1 + (get_or N.ops x no_op).small) 256 → r ≡ min (behind_recv + clauses) 256
+  end_is r e = e ∙ ap (λ (k : ℕ). min (k + 1 + (get_or N.ops k no_op).small) 256) x_is
+
+  -- the op that is read behind them
   behind_is : (y : ℕ) → y ≡ min (x + 1 + (get_or N.ops x no_op).small) 255 → get_or N.ops y no_op ≡ behind_op N (P N N-sound T T-means)
   behind_is y e =
       let last : y ≡ min (min (x + 1 + (get_or N.ops x no_op).small) 256) 255 = omega (arith, e) in
-      ap (λ (k : ℕ). get_or N.ops k no_op) (last ∙ ap (λ (k : ℕ). min (min (k + 1 + (get_or N.ops k no_op).small) 256) 255) x_is)
+      ap (λ (k : ℕ). get_or N.ops k no_op) (last ∙ ap (λ (k : ℕ). min k 255) (end_is _ refl))
 
   E-says : Says N N-sound T T-means E
   E-says = c.decide.ensures ∙ (λ i. decided_of T (P N N-sound T T-means) (C N N-sound T T-means) (X N N-sound T T-means)
@@ -143,8 +156,8 @@ module _ (c : Turn) where
   -- a step is accepted and played
   plays_on_lem : looks ≡ false → (m k : Node) → m ≡ k → rule N action ≡ done k → Sound m × Going looks n₀ numbers (count + 1) m
   plays_on_lem e m k s r =
-      subst (λ (x : Node). Sound x × Going looks n₀ numbers (count + 1) x) (sym s)
-      (subst (λ (b : Bool). Sound k × Going b n₀ numbers (count + 1) k) (sym e) (more numbers count N k in_list N-sound (played_on e) r))
+      let w = more numbers count N k in_list N-sound (played_on e) r in
+      subst (λ (x : Node). Sound x × Going looks n₀ numbers (count + 1) x) (sym s) (subst (λ (b : Bool). Sound k × Going b n₀ numbers (count + 1) k) (sym e) (w.1, w.2))
 
   abbrev Told : ℕ → Process → Type 0
   Told k p = Verdict N N-sound T T-means E E-says k p
@@ -176,42 +189,106 @@ module _ (c : In-Ok) where
 
 -- ---- the mailbox is searched
 
+-- the part behind a place of an array that has 256
+whole_part : {A : Type 0} (xs : List A) → length xs ≡ 256 → (a : ℕ) → take (256 - a) (drop a xs) ≡ drop a xs
+whole_part xs size a = ap (λ (k : ℕ). take (k - a) (drop a xs)) (sym size) ∙ part_behind xs a
+
 -- what the call answers is what the search of the rules answers
 search_told : (t : Turn) → (E t).receives ≡ true → (r : Searched)
-    → r ≡ searched_in (clauses_in (take (length (N t).ops - (x t + 1)) (drop (x t + 1) (N t).ops)) 0 (get_or (N t).ops (x t) no_op).small)
-    (mail_in (take (length (N t).slots - 16 * (T t).at) (drop (16 * (T t).at) (N t).slots)) 0 (waits t))
+    → r ≡ searched_in (clauses_in (take (256 - (x t + 1)) (drop (x t + 1) (N t).ops)) 0 (get_or (N t).ops (x t) no_op).small)
+    (mail_in (take (256 - 16 * (T t).at) (drop (16 * (T t).at) (N t).slots)) 0 (waits t))
     → r ≡ S (N t) (N-sound t) (T t) (T-means t)
 search_told t q r e =
     let small = (get_or (N t).ops (x t) no_op).small in
-    let ops = part_behind (N t).ops (x t + 1) in
-    let slots = part_behind (N t).slots (16 * (T t).at) in
+    let size = (parts_of (N t) (N-sound t)).sized in
+    let ops = whole_part (N t).ops size.ops (x t + 1) in
+    let slots = whole_part (N t).slots size.mail.cells (16 * (T t).at) in
     e
     ∙ (λ i. searched_in (take small (ops i)) (map (λ (s : Slot). s.message) (take (waits t) (slots i))))
     ∙ (λ i. searched_in (clauses_in (N t).ops (x_is t i + 1) (get_or (N t).ops (x_is t i) no_op).small) (mail_in (N t).slots (16 * (T t).at) (waits t)))
     ∙ search_is (N t) (N-sound t) (T t) (T-means t) (E t) (E-says t) q (at_bound t)
 
--- where no message fits, the number of the answer is a refusal
-misses : (r : Result Fit NoFit) → ((f : Fit) → r ≡ Ok f → ⊥) → search_number (found_of r) ≡ 0 → ⊥
-misses (Ok f) h e = h f refl
+-- the number of the answer is a refusal where no message fits, and only there
+hits : (r : Result Fit NoFit) → is_ok r ≡ true → search_number (found_of r) ≡ 0
+hits (Ok f) h = refl
+hits (Err e) h = absurd (false≢true h)
+
+misses : (r : Result Fit NoFit) → is_ok r ≡ false → search_number (found_of r) ≡ 0 → ⊥
+misses (Ok f) h e = absurd (false≢true (sym h))
 misses (Err Silent) h e = omega (arith, e)
 misses (Err Unfit) h e = omega (arith, e)
 
+-- an answer is that of the rules, and the message that leaves is one of the mailbox
+record Answers (t : Turn) (found : Result Fit NoFit) : Type 0 where
+  pub is : found_of found ≡ S (N t) (N-sound t) (T t) (T-means t)
+  pub within : fit_index (min (waits t) 16) (found_of found) ≤ min (waits t) 16
+
+indexed : (r : Result Fit NoFit) (w : ℕ) → w ≤ 16 → IfOk r (λ (f : Fit). f.index < w) → fit_index (min w 16) (found_of r) ≤ min w 16
+indexed (Ok f) w few h = omega (arith, few, h)
+indexed (Err Silent) w few h = omega arith
+indexed (Err Unfit) w few h = omega arith
+
+-- a search that goes by slots and ops is over: no message fits, or the message at slot s fits the clause at op k
+module _ (t : Turn) (sought : (E t).receives ≡ true) (count : ℕ) (count_is : count ≡ min (waits t) 16) (s : ℕ) (from : 16 * (T t).at ≤ s) (found : Result Fit NoFit) where
+  abbrev message_in : Message
+  message_in = (get_or (N t).slots s no_message).message
+
+  none_fits : s ≤ 16 * (T t).at + count → 16 * (T t).at + count ≤ s → found_of found ≡ so_far (s - 16 * (T t).at)
+      → AtMessage (N t) (N-sound t) (T t) (T-means t) (E t) (E-says t) (s - 16 * (T t).at) → Answers t found
+  none_fits most least missed v =
+      let last = last_is t sought count count_is in
+      let above = subst (λ (k : ℕ). k ≤ s) last least in
+      let within = subst (λ (k : ℕ). s ≤ k) last most in
+      let none = ap (fit_index (min (waits t) 16)) missed ∙ so_far_index (min (waits t) 16) (s - 16 * (T t).at) in
+      record {
+        is = missed ∙ sym (search_over (N t) (N-sound t) (T t) (T-means t) (E t) (E-says t) sought s from within above v);
+        within = omega (arith, none);
+      }
+
+  one_fits : s < 16 * (T t).at + count → (k end : ℕ) → end ≡ min (x t + 1 + (get_or (N t).ops (x t) no_op).small) 256 → behind_recv t ≤ k → k < end
+      → fits (get_or (N t).ops k no_op) message_in ≡ true → AtClause (N t) (N-sound t) (T t) (T-means t) (E t) (E-says t) (s - 16 * (T t).at) (k - behind_recv t) message_in
+      → found_of found ≡ hit (record { index = s - 16 * (T t).at; message = message_in; clause = get_or (N t).ops k no_op }) → Answers t found
+  one_fits less k end e low lower f v answer =
+      let below = subst (λ (j : ℕ). s < j) (last_is t sought count count_is) less in
+      let high = subst (λ (j : ℕ). k < j) (end_is t end e) lower in
+      let inside : s - 16 * (T t).at ≤ min (waits t) 16 = omega (arith, less, count_is) in
+      record {
+        is = answer ∙ sym (search_hit (N t) (N-sound t) (T t) (T-means t) (E t) (E-says t) s k from below low high f v);
+        within = subst (λ (j : ℕ). j ≤ min (waits t) 16) (sym (ap (fit_index (min (waits t) 16)) answer)) inside;
+      }
+
+abbrev Left : Type 0
+Left = After-first_fit-found
+
+module _ (c : Left) where
+  abbrev left_by : Turn
+  left_by = (goal.at.After-first_fit-found c).After-decide
+
+  sought : (E left_by).receives ≡ true
+  sought = ap (λ (d : Decision). d.receives) (deed_is (goal.at.After-first_fit-found c).In-Ok c.in-Searches.is)
+
+  answers : Answers left_by c.first_fit-found.result
+  answers =
+      let t = left_by in
+      let few = waiting_bound (N t) (N-sound t) (T t) (T-means t) (E t) (E-says t) (turn_searching (N t) (N-sound t) (T t) (T-means t) (E t) (E-says t) sought) sought in
+      record { is = search_told t sought _ c.first_fit-found.ensures.answer; within = indexed _ (waits t) few c.first_fit-found.ensures.within }
+
 -- a message fits, and the step is a run: it is accepted
-module _ (c : In-Ok-found) where
+module _ (c : Then-is_ok) where
   abbrev taken_by : Turn
-  taken_by = (goal.at.In-Ok-found c).After-decide
+  taken_by = (goal.at.Then-is_ok c).After-decide
 
   searching_is : (E taken_by).receives ≡ true
-  searching_is = ap (λ (d : Decision). d.receives) (deed_is (goal.at.In-Ok-found c).In-Ok c.in-Searches.is)
+  searching_is = sought (goal.at.Then-is_ok c).After-first_fit-found
 
-  fit_is : found_of (Ok c.in-Ok-found.fit) ≡ S (N taken_by) (N-sound taken_by) (T taken_by) (T-means taken_by)
-  fit_is = sym (ap found_of c.in-Ok-found.is) ∙ search_told taken_by searching_is _ c.search_in-found.ensures.answer
+  fit_is : found_of c.first_fit-found.result ≡ S (N taken_by) (N-sound taken_by) (T taken_by) (T-means taken_by)
+  fit_is = (answers (goal.at.Then-is_ok c).After-first_fit-found).is
 
   takes_one : rule (N taken_by) (action taken_by)
       ≡ done (received (N taken_by) (N-sound taken_by) (T taken_by) (T-means taken_by) (E taken_by) (E-says taken_by) (S (N taken_by) (N-sound taken_by) (T taken_by) (T-means taken_by)))
   takes_one =
       let t = taken_by in
-      let number : search_number (S (N t) (N-sound t) (T t) (T-means t)) ≡ 0 = ap search_number (sym fit_is) in
+      let number : search_number (S (N t) (N-sound t) (T t) (T-means t)) ≡ 0 = ap search_number (sym fit_is) ∙ hits _ (sym c.is_ok.ensures.value ∙ c.if-is_ok.true) in
       ⊎_elim (λ w. absurd (w.0 number)) (λ w. w.1) (run_searched (N t) (N-sound t) (T t) (T-means t) (E t) (E-says t) searching_is c.if-s.false)
 
 -- ---- no message leaves by the step
@@ -241,7 +318,7 @@ module _ (c : Joined-deed) where
   same_deed =
       elim c.match-deed.branch [
         | in-Searches+then-s w ↦ w.deed-is
-        | in-Searches+else-s+in_default w ↦ w.deed-is
+        | in-Searches+else-s+else-is_ok w ↦ w.deed-is
         | in-Sends w ↦ w.deed-is ∙ sym w.in-Sends.is
         | in-Spawns w ↦ w.deed-is ∙ sym w.in-Spawns.is
         | in-Joins w ↦ w.deed-is
@@ -270,17 +347,17 @@ module _ (c : Joined-deed) where
       elim c.match-deed.branch [
         | in-Searches+then-s w ↦
             let sought : (E t).receives ≡ true = ap (λ (d : Decision). d.receives) (deed_is ok w.in-Searches.is) in
-            let searched = search_told t sought _ w.search_in-found.ensures.answer in
+            let searched = search_told t sought _ w.first_fit-found.ensures.answer in
             let op = behind_is t w.behind_clauses.result w.behind_clauses.ensures.value in
             let is = ap refusal_told w.refused-is ∙ w.timeout_refusal.ensures
             ∙ (λ i. timeout_refusal (searched i) p.place (get_or (N t).ops (x_is t i) no_op).small (get_or (N t).lens (len_is t i) 0) (op i)) in
             let moves : next ≡ moved p (behind_op (N t) p).target = w.next-is ∙ w.moved-next.ensures ∙ ap (λ (o : Op). moved p o.target) op in
             tells is moves (timeout_searched (N t) (N-sound t) (T t) (T-means t) (E t) (E-says t) sought w.if-s.true)
-        | in-Searches+else-s+in_default w ↦
+        | in-Searches+else-s+else-is_ok w ↦
             let sought : (E t).receives ≡ true = ap (λ (d : Decision). d.receives) (deed_is ok w.in-Searches.is) in
-            let searched = search_told t sought _ w.search_in-found.ensures.answer in
+            let searched = search_told t sought _ w.first_fit-found.ensures.answer in
             let number : told ≡ search_number s = ap refusal_told w.refused-is ∙ w.search_refusal.ensures ∙ ap search_number searched in
-            let none : search_number s ≡ 0 → ⊥ = λ e. misses _ w.in_default.not-Ok (ap search_number searched ∙ e) in
+            let none : search_number s ≡ 0 → ⊥ = λ e. misses _ (sym w.is_ok.ensures.value ∙ w.if-is_ok.false) (ap search_number searched ∙ e) in
             let said : rule (N t) (action t) ≡ refused (search_number s) = ⊎_elim (λ v. v.1) (λ v. absurd (none v.0))
             (run_searched (N t) (N-sound t) (T t) (T-means t) (E t) (E-says t) sought w.if-s.false) in
             tells number refl (inl (none, said))
@@ -363,7 +440,7 @@ module _ (c : Joined-deed-2) where
             let to : mail ≡ joined_by u (E u) = mail_joined n (N-sound u) (T u) (T-means u) (E u) (E-says u) (ap (λ (d : Decision). d.joins) is) in (
               w.node-is
                   ∙ (λ i. made n ps (record {
-                    cells = set n.slots (16 * (T u).at + w.up_to-in-Joins-deed.ensures i) (slot_of w.in-Joins-deed.message);
+                    cells = set n.slots (16 * (T u).at + w.up_to.ensures i) (slot_of w.in-Joins-deed.message);
                     counts = set n.waiting (T u).at (w.risen.ensures i);
                   })
                   (flight_shelf n))
@@ -397,13 +474,13 @@ loop-t-preserved-then-looks c = looks_on (goal.at.loop-t-preserved-then-looks c)
 pub returns-in-Err-clause-result_value : goal.returns-in-Err-clause-result_value
 returns-in-Err-clause-result_value c =
     let turn = (goal.at.returns-in-Err-clause-result_value c).After-decide in
-    λ q. c.ended.ensures ∙ stop (numbers turn) (count turn) (N turn) _ (in_list turn) (N-sound turn) (played_on turn q) (early (goal.at.returns-in-Err-clause-result_value c).In-Err)
+    λ q. c.ended.ensures (N turn) ∙ stop (numbers turn) (count turn) (N turn) _ (in_list turn) (N-sound turn) (played_on turn q) (early (goal.at.returns-in-Err-clause-result_value c).In-Err)
 
 pub returns-then-looks-2-clause-accepted_value : goal.returns-then-looks-2-clause-accepted_value
 returns-then-looks-2-clause-accepted_value c =
     let turn = (goal.at.returns-then-looks-2-clause-accepted_value c).After-decide in
-    λ q. ap (λ (r : Outcome). r.accepted) c.ended-then-looks-2.ensures
-    ∙ look_stop (n₀ turn) (numbers turn) (count turn) (N turn) (N-sound turn) (looked turn q) _ (in_list turn) (takes_one (goal.at.returns-then-looks-2-clause-accepted_value c).In-Ok-found)
+    λ q. ap (λ (r : Outcome). r.accepted) (c.ended-then-looks-2.ensures (N turn))
+    ∙ look_stop (n₀ turn) (numbers turn) (count turn) (N turn) (N-sound turn) (looked turn q) _ (in_list turn) (takes_one (goal.at.returns-then-looks-2-clause-accepted_value c).Then-is_ok)
 
 pub loop-m-preserved : goal.loop-m-preserved
 loop-m-preserved c =
@@ -414,7 +491,7 @@ loop-m-preserved c =
     let low = c.loop-m.auto.m in
     let below = c.loop-m-test.true in
     let bound = at_bound turn in
-    let most = c.up_to.ensures in
+    let most = c.up_to-count.ensures in
     let size : length (N turn).slots ≡ 256 = (parts_of (N turn) (N-sound turn)).sized.mail.cells in
     let before : m - 1 + 1 ≡ m = omega (arith, low) in
     let behind : m ≡ m + 1 - 1 = omega arith in
@@ -422,17 +499,17 @@ loop-m-preserved c =
     let slots = set q.slots (m - 1) (get_or q.slots m no_message) in
     (ap (λ (k : Node). with_slots k slots) v.0, subst (Moved _ _ _ slots) behind (rw before at more))
 
-pub loop-t-preserved-in-Ok-found : goal.loop-t-preserved-in-Ok-found
-loop-t-preserved-in-Ok-found c =
-    let turn = (goal.at.loop-t-preserved-in-Ok-found c).After-decide in
-    let fits = (goal.at.loop-t-preserved-in-Ok-found c).In-Ok-found in
+pub loop-t-preserved-then-is_ok : goal.loop-t-preserved-then-is_ok
+loop-t-preserved-then-is_ok c =
+    let turn = (goal.at.loop-t-preserved-then-is_ok c).After-decide in
+    let fits = (goal.at.loop-t-preserved-then-is_ok c).Then-is_ok in
     let n = N turn in
     let v = c.loop-m.invariant in
     let low = c.loop-m.auto.m in
     let over = c.loop-m-test.false in
-    let last = last_is turn (searching_is fits) c.up_to.result c.up_to.ensures in
+    let last = last_is turn (searching_is fits) c.up_to-count.result c.up_to-count.ensures in
     let next = c.after_search.ensures ∙ ap (after_search (P n (N-sound turn) (T turn) (T-means turn))) (fit_is fits) in
-    let at = ap (λ (z : Searched). 16 * (T turn).at + fit_index (min (waits turn) 16) z) (fit_is fits) in
+    let at = ap (λ (k : ℕ). 16 * (T turn).at + k) (c.fit_index.ensures ∙ (λ i. fit_index (c.up_to-count.ensures i) (fit_is fits i))) in
     let slots = moved_end v.1 (omega (arith, low, over)) ∙ (λ i. up (at i) (last i) n.slots) in
     plays_on_lem turn c.if-looks-2.false _ _
     (v.0 ∙ (λ i. made n (set n.processes (T turn).at (next i)) (record { cells = slots i; counts = set n.waiting (T turn).at (c.fallen.ensures i) })
@@ -445,21 +522,21 @@ loop-t-preserved-then-looks-3 c = looks_on (goal.at.loop-t-preserved-then-looks-
 pub returns-in-Some-clause-result_value : goal.returns-in-Some-clause-result_value
 returns-in-Some-clause-result_value c =
     let turn = (goal.at.returns-in-Some-clause-result_value c).After-decide in
-    λ q. c.ended-in-Some.ensures
+    λ q. c.ended-in-Some.ensures (N turn)
     ∙ stop (numbers turn) (count turn) (N turn) _ (in_list turn) (N-sound turn) (played_on turn q) (refuses (goal.at.returns-in-Some-clause-result_value c).Joined-deed c.in-Some.is)
 
 pub returns-then-looks-4-clause-accepted_value : goal.returns-then-looks-4-clause-accepted_value
 returns-then-looks-4-clause-accepted_value c =
     let turn = (goal.at.returns-then-looks-4-clause-accepted_value c).After-decide in
-    λ q. ap (λ (r : Outcome). r.accepted) c.ended-then-looks-4.ensures ∙ look_stop (n₀ turn) (numbers turn) (count turn) (N turn) (N-sound turn) (looked turn q) _ (in_list turn)
-    (commits (goal.at.returns-then-looks-4-clause-accepted_value c).Joined-deed c.in_default-refused.not-Some).answer
+    λ q. ap (λ (r : Outcome). r.accepted) (c.ended-then-looks-4.ensures (N turn)) ∙ look_stop (n₀ turn) (numbers turn) (count turn) (N turn) (N-sound turn) (looked turn q) _ (in_list turn)
+    (commits (goal.at.returns-then-looks-4-clause-accepted_value c).Joined-deed c.in_default.not-Some).answer
 
 pub loop-t-preserved-in-Spawns-deed : goal.loop-t-preserved-in-Spawns-deed
 loop-t-preserved-in-Spawns-deed c =
     let turn = (goal.at.loop-t-preserved-in-Spawns-deed c).After-decide in
     let judged = (goal.at.loop-t-preserved-in-Spawns-deed c).Joined-deed in
     let n = N turn in
-    let w = commits judged c.in_default-refused.not-Some in
+    let w = commits judged c.in_default.not-Some in
     let is = deed_stays judged c.in-Spawns-deed.is in
     let mail = mail_kept n (N-sound turn) (T turn) (T-means turn) (E turn) (E-says turn) (ap (λ (d : Decision). d.joins) is) in
     let flight = flight_kept n (N-sound turn) (T turn) (T-means turn) (E turn) (E-says turn) (ap (λ (d : Decision). d.sends) is) in
@@ -477,7 +554,7 @@ loop-f-preserved c =
     let q = c.loop-f.node in
     let h = c.loop-f-test.true in
     let b = arrival_bound turn in
-    let clear = (commits (goal.at.loop-f-preserved c).Joined-deed c.in_default-refused.not-Some).cleared in
+    let clear = (commits (goal.at.loop-f-preserved c).Joined-deed c.in_default.not-Some).cleared in
     let size : length c.match-deed-2.node.cells ≡ 1024 = ap (λ (x : Node). length x.cells) (stores (goal.at.loop-f-preserved c).Joined-deed-2).0 ∙
     stored_cells (N turn) (N-sound turn) (T turn) (T-means turn) (E turn) (E-says turn) clear in
     let room : 4 * (T turn).row + 3 + 1 ≤ length c.match-deed-2.node.cells = subst (λ (k : ℕ). 4 * (T turn).row + 3 + 1 ≤ k) (sym size) (omega (arith, b)) in
@@ -489,7 +566,7 @@ loop-t-preserved c =
     let turn = (goal.at.loop-t-preserved c).After-decide in
     let stored = (stores all-stored).0 in
     let behind = flight all-stored in
-    let w = commits (goal.at.loop-t-preserved c).Joined-deed c.in_default-refused.not-Some in
+    let w = commits (goal.at.loop-t-preserved c).Joined-deed c.in_default.not-Some in
     let shift : List Cell → List Cell = up (4 * (T turn).row) (4 * (T turn).row + 4) in
     let end : 4 * (T turn).row + 3 + 1 ≡ 4 * (T turn).row + 4 = omega arith in
     elim c.if-s-2.branch [
@@ -518,5 +595,15 @@ returns-clause-result_value c =
     let n = c.loop-t.node in
     let l = c.args.numbers.now in
     let all : length l ≡ c.loop-t.t = omega (arith, h, most) in
-    λ e. c.ended-2.ensures ∙ ap (λ (k : ℕ). record { accepted = k; refusal = 0; node = n }) all
-    ∙ over l c.loop-t.t n h (subst (λ (b : Bool). Going b c.args.n l c.loop-t.t n) e c.loop-t.invariant.1)
+    λ e. c.ended-2.ensures n ∙ ap (λ (k : ℕ). record { accepted = k; refusal = 0; node = n }) all
+    ∙ over l c.loop-t.t n h (subst (λ (b : Bool). Going b c.args.node.now l c.loop-t.t n) e c.loop-t.invariant.1)
+
+pub returns-clause-accepted_value : goal.returns-clause-accepted_value
+returns-clause-accepted_value c =
+    let h = c.loop-t-test.false in
+    let most = c.loop-t.auto.t-end in
+    let n = c.loop-t.node in
+    let l = c.args.numbers.now in
+    let all : length l ≡ c.loop-t.t = omega (arith, h, most) in
+    λ e. ap (λ (r : Outcome). r.accepted) (c.ended-2.ensures n) ∙ all
+    ∙ look_over c.args.node.now l c.loop-t.t n c.loop-t.invariant.0 (subst (λ (b : Bool). Going b c.args.node.now l c.loop-t.t n) e c.loop-t.invariant.1) h

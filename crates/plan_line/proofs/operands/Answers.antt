@@ -1,9 +1,11 @@
 -- `operands` reads each operand of an op by its kind. The invariant: what is read of the op, with the kinds and the fields that are left,
 -- gives the answer. Assumes nothing.
-use mathlib.Core.Path.{refl}
+use mathlib.Core.Path.{refl, ap}
 use Prim.Native.Char.{code}
 use native.Mathlib.Omega.{arith}
 use Rattle.text.proofs.Parts.{place_after, place_inside}
+use Rattle.plan_line.specs.Lines.{op}
+use Rattle.plan_line.specs.Ops.{no_code}
 use Rattle.plan_line.proofs.Fields.{behind_next, behind_none, end_found}
 use Rattle.plan_line.proofs.Ops.{stands_first, stands_more, stands_range, stands_malformed, operand_missing, operand_surplus, operands_range, operands_end}
 use Rattle.plan_line.proofs.operands.Goals as goal
@@ -15,7 +17,7 @@ loop-i-init c = (c.requires.0, stands_first _ _ _ _ c.requires.1 (rw c.blank.ens
 pub returns-then-rest-e : goal.returns-then-rest-e
 returns-then-rest-e c =
     let turn = c.loop-i.invariant in
-    operand_missing _ _ _ c.loop-i.i turn.1 (omega (arith, c.operand_count-i-end.ensures)) (behind_none _ turn.0 c.if-rest-e.true)
+    ap op (operand_missing _ _ _ c.loop-i.i turn.1 {x = no_code} (omega (arith, c.operand_count-i-end.ensures)) (behind_none _ turn.0 c.if-rest-e.true) refl)
 
 pub slice_bounds-with_operand-count : goal.slice_bounds-with_operand-count
 slice_bounds-with_operand-count c = place_after (code ",") _ (omega arith) c.find-e.ensures
@@ -51,7 +53,7 @@ loop-i-preserved c =
 pub returns-then-e-rest : goal.returns-then-e-rest
 returns-then-e-rest c =
     let turn = c.loop-i.invariant in
-    operand_surplus _ _ _ c.loop-i.i turn.1 (omega (arith, c.operand_count-i-end.ensures)) (behind_next _ turn.0 c.if-e-rest.true refl)
+    ap op (operand_surplus _ _ _ c.loop-i.i turn.1 {x = no_code} (omega (arith, c.operand_count-i-end.ensures)) (behind_next _ turn.0 c.if-e-rest.true refl) refl)
 
 pub returns-then-out_of_range : goal.returns-then-out_of_range
 returns-then-out_of_range c =

@@ -11,6 +11,7 @@ use Rattle.text.proofs.Parts.{place_inside}
 use Rattle.text.specs.Parts.{index_of}
 use Rattle.words.specs.Words.{packed}
 use Rattle.plan_line.specs.Lines.{op}
+use Rattle.plan_line.specs.Ops.{no_code}
 use Rattle.plan_line.proofs.Fields.{end_found}
 use Rattle.plan_line.proofs.Ops.{found_at, op_right, op_word}
 use Rattle.plan_line.proofs.read_op.Goals as goal
@@ -37,4 +38,4 @@ returns-in-Some c = c.operands.ensures ∙ ap op (op_right c.args.count c.args.l
 
 pub returns-in-None : goal.returns-in-None
 unfolding packed
-returns-in-None c = op_word c.args.count c.args.len c.args.rest.now c.find-e.ensures (c.in-None.ensures op_words refl refl)
+returns-in-None c = ap op (op_word c.args.count c.args.len c.args.rest.now c.find-e.ensures {x = no_code} (c.in-None.ensures op_words refl refl) refl)

@@ -1,9 +1,12 @@
 -- `read_value` gives the value that a text is: its letter decides how its number is read. Assumes nothing.
+use mathlib.Core.Path.{refl, ap}
 use native.Mathlib.Omega.{arith}
 use Rattle.std.proofs.lemmas.Result.{err_from_is_err_and}
 use Rattle.node.specs.Values.{pid}
 use Rattle.node.specs.declared.Value.TheVariants.{Atom}
-use Rattle.text.specs.Values.{by_letter}
+use Rattle.text.specs.Numbers.{malformed}
+use Rattle.text.specs.Results.{value_answer}
+use Rattle.text.specs.Values.{no_value, by_letter}
 use Rattle.text.proofs.Values.{value_none, value_led, value_other, int_refused, ranged_refused, ranged_done}
 use Rattle.text.proofs.read_value.Goals as goal
 
@@ -20,7 +23,7 @@ unfolding by_letter
 returns-in_ok-read_ranged-in-112 c = value_led _ c.in-Some.ensures.cases (rw c.in-112.is (ranged_done pid c.in_ok-read_ranged-in-112.ensures))
 
 pub returns-in_default : goal.returns-in_default
-returns-in_default c = value_none _ c.in_default.ensures.cases
+returns-in_default c = ap value_answer (value_none _ {r = no_value malformed} c.in_default.ensures.cases refl)
 
 pub returns-in_err-read_number-in-105 : goal.returns-in_err-read_number-in-105
 unfolding by_letter

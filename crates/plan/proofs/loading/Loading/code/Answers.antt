@@ -7,6 +7,7 @@ use Rattle.std.proofs.Common.{rules}
 use Rattle.node.specs.declared.Node.{Node}
 use Rattle.plan_line.specs.Lines.{op_line}
 use Rattle.plan.specs.Plans.{more, code_lines, with_code, with_ops}
+use Rattle.plan.specs.Rests.{coded_node}
 use Rattle.plan.specs.Reading.{Left, on_line, times}
 use Rattle.plan.proofs.Loops.{err_told, bad_on, good_on, mapped_good, then_stop, then_more}
 use Rattle.plan.proofs.Nodes.{counted_code}
@@ -17,26 +18,26 @@ unfolding code_lines
 returns-in_err-len c =
     let args = c.args in
     err_told _ _ _ _ c.from_residual.ensures.1
-    ∙ then_stop _ (λ (n : ℕ) (l : Left). times n (more (on_line (op_line args.count n))) [] l) (with_code args.self.now.node) c.in_err-len.ensures.read
+    ∙ then_stop _ (λ (n : ℕ) (l : Left). times n (more (on_line (op_line args.count n))) [] l) (with_code (coded_node args.self.now.codes)) c.in_err-len.ensures.read
 
 pub returns-in_err-ops : goal.returns-in_err-ops
 unfolding code_lines
 returns-in_err-ops c =
     let args = c.args in
     err_told _ _ _ _ c.from_residual-in_err-ops.ensures.1
-    ∙ then_more _ (λ (n : ℕ) (l : Left). times n (more (on_line (op_line args.count n))) [] l) (with_code args.self.now.node) c.in_ok-len.ensures.read
-    (bad_on (with_ops args.self.now.node) (with_code args.self.now.node) _ c.in_err-ops.ensures)
+    ∙ then_more _ (λ (n : ℕ) (l : Left). times n (more (on_line (op_line args.count n))) [] l) (with_code (coded_node args.self.now.codes)) c.in_ok-len.ensures.read
+    (bad_on (with_ops (coded_node args.self.now.codes)) (with_code (coded_node args.self.now.codes)) _ c.in_err-ops.ensures)
 
 pub overflow_add-self : goal.overflow_add-self
 overflow_add-self c =
-    let was = mapped_good (with_ops c.args.self.now.node) _ c.in_ok-ops.ensures in
-    let count : c.ops.new.self.node.count ≡ c.args.self.now.node.count = ap (λ (n : Node). n.count) was.2 in
-    let few : c.ops.new.self.node.count + 1 < 256 = omega arith in
+    let was = mapped_good (with_ops (coded_node c.args.self.now.codes)) _ c.in_ok-ops.ensures in
+    let count : c.ops.new.self.codes.count ≡ c.args.self.now.codes.count = ap (λ (n : Node). n.count) was.2 in
+    let few : c.ops.new.self.codes.count + 1 < 256 = omega arith in
     search rules
 
 pub returns : goal.returns
 unfolding code_lines
 returns c =
     let args = c.args in
-    then_more _ (λ (n : ℕ) (l : Left). times n (more (on_line (op_line args.count n))) [] l) (with_code args.self.now.node) c.in_ok-len.ensures.read
-    (good_on (with_ops args.self.now.node) (with_code args.self.now.node) _ c.in_ok-ops.ensures (λ ops e. counted_code args.self.now.node ops e))
+    then_more _ (λ (n : ℕ) (l : Left). times n (more (on_line (op_line args.count n))) [] l) (with_code (coded_node args.self.now.codes)) c.in_ok-len.ensures.read
+    (good_on (with_ops (coded_node args.self.now.codes)) (with_code (coded_node args.self.now.codes)) _ c.in_ok-ops.ensures (λ ops e. counted_code (coded_node args.self.now.codes) ops e))
