@@ -126,8 +126,8 @@ fn cell_index(row: usize, sent: u8) -> usize
 }
 
 // The steps of a sound node, played until one is refused; or, where `looks` is set, looked at until one would be accepted, without a store.
-// It reads and stores in place, since handing the node to a function for each step would copy it; this is why it is long. Where it only looks, what
-// becomes of the node is not told: its caller keeps another.
+// It reads and stores in place, since handing the node to a function for each step would copy it; this is why it is long. Where it only looks, no
+// clause speaks of the node then, which nobody reads.
 fn core(node: &mut Node, numbers: &[u32], looks: bool) -> Stop
     requires { Sound node.old }
     ensures result_value { looks ≡ false → stop_of result node.new ≡ played node.old (map action_of numbers.now) }

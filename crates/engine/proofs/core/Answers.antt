@@ -50,7 +50,7 @@ use Rattle.turns.proofs.Turns.{place_at, behind_op, P, O, C, X, W, S, Says, top,
 use Rattle.turns.proofs.Turns.{own_refused, search_is, run_searched, timeout_searched, unsought, mail_joined, mail_kept, flight_sent, flight_kept}
 use Rattle.turns.proofs.Turns.{Verdict, Committed, received, made, stored_mail, stored_flight, stored_cells, stored_run, stored_birth, stored_arrival}
 use Rattle.engine.proofs.core.Goals as goal
-use Rattle.engine.proofs.core.Goals.{After-decide, In-Err, In-Ok, After-first_fit-found, Then-is_ok, Joined-deed, Joined-deed-2}
+use Rattle.engine.proofs.core.Goals.{After-decide, In-Err, In-Ok, After-first_fit-found, Then-is_ok, Joined-deed, Joined-deed-2, After-ended-2}
 use Rattle.engine.proofs.core.Goals.{in-Searches+then-s, in-Searches+else-s+else-is_ok, in-Sends, in-Spawns, in-Joins}
 use Rattle.engine.proofs.core.Goals.{in-Joins-deed, in-Sends-deed, in-Searches-deed, then-s-2+else-loop-f-test, else-s-2}
 
@@ -588,22 +588,29 @@ loop-t-preserved c =
           w.answer
     ]
 
+-- ---- all steps were played, or looked at
+module _ (c : After-ended-2) where
+  abbrev list : List ℕ
+  list = c.args.numbers.now
+
+  abbrev node_then : Node
+  node_then = c.loop-t.node
+
+  over_by : length list ≤ c.loop-t.t
+  over_by = c.loop-t-test.false
+
+  all : length list ≡ c.loop-t.t
+  all = let most = c.loop-t.auto.t-end in omega (arith, over_by, most)
+
+  went : {b : Bool} → c.args.looks ≡ b → Going b c.args.node.now list c.loop-t.t node_then
+  went e = subst (λ (b : Bool). Going b c.args.node.now list c.loop-t.t node_then) e c.loop-t.invariant.1
+
 pub returns-clause-result_value : goal.returns-clause-result_value
 returns-clause-result_value c =
-    let h = c.loop-t-test.false in
-    let most = c.loop-t.auto.t-end in
-    let n = c.loop-t.node in
-    let l = c.args.numbers.now in
-    let all : length l ≡ c.loop-t.t = omega (arith, h, most) in
-    λ e. c.ended-2.ensures n ∙ ap (λ (k : ℕ). record { accepted = k; refusal = 0; node = n }) all
-    ∙ over l c.loop-t.t n h (subst (λ (b : Bool). Going b c.args.node.now l c.loop-t.t n) e c.loop-t.invariant.1)
+    let end = (goal.at.returns-clause-result_value c).After-ended-2 in
+    λ e. c.ended-2.ensures (node_then end) ∙ ap (λ (k : ℕ). record { accepted = k; refusal = 0; node = node_then end }) (all end) ∙ over (list end) _ _ (over_by end) (went end e)
 
 pub returns-clause-accepted_value : goal.returns-clause-accepted_value
 returns-clause-accepted_value c =
-    let h = c.loop-t-test.false in
-    let most = c.loop-t.auto.t-end in
-    let n = c.loop-t.node in
-    let l = c.args.numbers.now in
-    let all : length l ≡ c.loop-t.t = omega (arith, h, most) in
-    λ e. ap (λ (r : Outcome). r.accepted) (c.ended-2.ensures n) ∙ all
-    ∙ look_over c.args.node.now l c.loop-t.t n c.loop-t.invariant.0 (subst (λ (b : Bool). Going b c.args.node.now l c.loop-t.t n) e c.loop-t.invariant.1) h
+    let end = (goal.at.returns-clause-accepted_value c).After-ended-2 in
+    λ e. ap (λ (r : Outcome). r.accepted) (c.ended-2.ensures (node_then end)) ∙ all end ∙ look_over _ (list end) _ (node_then end) c.loop-t.invariant.0 (went end e) (over_by end)
