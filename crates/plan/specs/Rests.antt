@@ -39,7 +39,7 @@ mapped f (bad k n) = bad k n
 mapped f (good a l) = good (f a) l
 
 abbrev pub coded_node : Codes → Node
-coded_node c = remade empty_node c.count c.lens c.ops c.processes
+coded_node c = let b = c.behaviours in remade empty_node b.count b.lens b.ops c.processes
 
 abbrev pub read_told : Result Codes Refused → Loaded
 read_told (Ok c) = record { number = 0; line = 0; node = coded_node c }

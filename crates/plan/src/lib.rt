@@ -53,7 +53,11 @@ fn read(text: &[u8]) -> Result<Codes, Refused>
     // The answer has a name: a must-fail edit that changes it leaves the goals theirs.
     let told = loading.plan();
     told?;
-    match placement::misplaced(loading.codes.count, loading.codes.lens, loading.codes.ops) {
+    match placement::misplaced(
+        loading.codes.behaviours.count,
+        loading.codes.behaviours.lens,
+        loading.codes.behaviours.ops,
+    ) {
         Some(line) => Err(Refused {
             fault: Fault::IllPlaced,
             line,

@@ -10,16 +10,13 @@ ghost use Rattle.plan.specs.Rests.{coded_node, left_of, mapped, told};
 
 use crate::fault::Refused;
 use crate::rest::Rest;
-use node::{Node, Op, Process, ProcessNumber, Value};
+use node::{Behaviours, Node, Op, Process, ProcessNumber, Value};
 
-// What a plan says of its node: the ops, 32 places to a behaviour, the processes, the number of ops of each behaviour, and how many behaviours
-// there are. The node, of which most is mail and signals, is made of it once.
+// What a plan says of its node: its behaviours and its processes. The node, of which most is mail and signals, is made of it once.
 #[derive(Clone, Copy)]
 pub(crate) struct Codes {
-    pub(crate) ops: [Op; 256],
+    pub(crate) behaviours: Behaviours,
     pub(crate) processes: [Process; 16],
-    pub(crate) lens: [u8; 8],
-    pub(crate) count: u8,
 }
 
 impl Codes {
@@ -28,10 +25,12 @@ impl Codes {
         ensures { coded_node result ≡ empty_node }
     {
         Codes {
-            ops: [Op::stop(); 256],
+            behaviours: Behaviours {
+                count: 0,
+                lens: [0; 8],
+                ops: [Op::stop(); 256],
+            },
             processes: [Process::unborn(); 16],
-            lens: [0; 8],
-            count: 0,
         }
     }
 
@@ -40,11 +39,10 @@ impl Codes {
     pub(crate) fn blank() -> Codes
         ensures { coded_node result ≡ blank_node }
     {
-        Codes {
-            lens: [1, 0, 0, 0, 0, 0, 0, 0],
-            count: 1,
-            ..Codes::none()
-        }
+        let mut codes = Codes::none();
+        codes.behaviours.lens[0] = 1;
+        codes.behaviours.count = 1;
+        codes
     }
 
     // The node of a plan, without mail and signals. Its fields are stored one by one: `..Node::blank()` copies the node once more.
@@ -53,11 +51,10 @@ impl Codes {
         ensures { result ≡ coded_node self.now }
     {
         let Codes {
-            ops,
+            behaviours,
             processes,
-            lens,
-            count,
         } = *self;
+        let Behaviours { count, lens, ops } = behaviours;
         let mut node = Node::blank();
         node.count = count;
         node.lens = lens;
@@ -89,7 +86,7 @@ impl<'a> Loading<'a> {
 
     // The behaviours of a plan.
     fn codes(&mut self, count: u8) -> Result<(), Refused>
-        requires { self.old.codes.count + count ≤ 8 }
+        requires { self.old.codes.behaviours.count + count ≤ 8 }
         ensures { told (λ x. coded_node self.new.codes) result (left_of self.new.rest) ≡
             mapped (with_each with_code (coded_node self.old.codes)) (times count (more (code_lines count)) [] (left_of self.old.rest)) }
     {
@@ -101,27 +98,27 @@ impl<'a> Loading<'a> {
 
     // A behaviour, behind the others.
     fn code(&mut self, count: u8) -> Result<(), Refused>
-        requires { self.old.codes.count < 8 }
+        requires { self.old.codes.behaviours.count < 8 }
         ensures { told (λ x. coded_node self.new.codes) result (left_of self.new.rest) ≡
             mapped (with_code (coded_node self.old.codes)) (code_lines count (left_of self.old.rest)) }
     {
         let len = self.rest.count(b"code=", 1, 32)?;
         self.ops(count, len)?;
-        self.codes.count += 1;
+        self.codes.behaviours.count += 1;
         Ok(())
     }
 
     // The ops of a behaviour with `len` ops, behind the others.
     fn ops(&mut self, count: u8, len: u8) -> Result<(), Refused>
-        requires first { self.old.codes.count < 8 }
+        requires first { self.old.codes.behaviours.count < 8 }
         requires few { len ≤ 32 }
         ensures { told (λ x. coded_node self.new.codes) result (left_of self.new.rest) ≡
             mapped (with_ops (coded_node self.old.codes)) (times len (more (on_line (op_line count len))) [] (left_of self.old.rest)) }
     {
-        let b = self.codes.count as usize;
-        self.codes.lens[b] = len;
+        let b = self.codes.behaviours.count as usize;
+        self.codes.behaviours.lens[b] = len;
         for i in 0..len {
-            self.codes.ops[b * 32 + (i as usize)] = self.rest.op(count, len)?;
+            self.codes.behaviours.ops[b * 32 + (i as usize)] = self.rest.op(count, len)?;
         }
         Ok(())
     }

@@ -31,8 +31,8 @@ returns-in_err-ops c =
 pub overflow_add-self : goal.overflow_add-self
 overflow_add-self c =
     let was = mapped_good (with_ops (coded_node c.args.self.now.codes)) _ c.in_ok-ops.ensures in
-    let count : c.ops.new.self.codes.count ≡ c.args.self.now.codes.count = ap (λ (n : Node). n.count) was.2 in
-    let few : c.ops.new.self.codes.count + 1 < 256 = omega arith in
+    let count : c.ops.new.self.codes.behaviours.count ≡ c.args.self.now.codes.behaviours.count = ap (λ (n : Node). n.count) was.2 in
+    let few : c.ops.new.self.codes.behaviours.count + 1 < 256 = omega arith in
     search rules
 
 pub returns : goal.returns
